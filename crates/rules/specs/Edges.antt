@@ -1,0 +1,119 @@
+-- The starred edges of document 01: one table, one statement, proved by computing.
+use mathlib.Core.Path.{_≡_, refl}
+use mathlib.Core.List.{List, [], _∷_, _++_, map}
+use Prim.Native.Nat.{ℕ, _-_}
+use lib.IntN.{pos, negsuc}
+use lib.ListN.{length, drop, replicate}
+use Rattle.rules.specs.declared.Mode.the-variants.{User, Kernel}
+use Rattle.rules.specs.declared.Event.{Event}
+use Rattle.rules.specs.declared.Event.the-variants.{Call, Interrupt, Exception}
+use Rattle.rules.specs.declared.Cause.the-variants.{Tlb, General}
+use Rattle.rules.specs.declared.Action.the-variants.{CarryOn, Run, Wait, Halt, Panic, PassUp, Nothing}
+use Rattle.rules.specs.declared.Result.the-variants.{Silent, Says}
+use Rattle.rules.specs.declared.Part.the-variants.{Absent, Number}
+use Rattle.rules.specs.declared.Answer.{Answer}
+use Rattle.rules.specs.Rules.{start, answers, rule-book}
+use Rattle.rules.specs.Examples.{printed, call}
+
+-- a row: the start's clock and semaphore 0 (the others are 0), the events, and the last answers
+record Edge : Type 0 where
+  now : ℕ
+  sem : ℕ
+  events : List Event
+  last : List Answer
+
+abbrev edge : ℕ → ℕ → List Event → List Answer → Edge
+edge now sem events last = record { now = now; sem = sem; events = events; last = last }
+
+-- as many last answers as the row expects
+found : Edge → List Answer
+found r = let all = answers (start 20 (r .now) (r .sem ∷ replicate 31 0)) (r .events) in drop (length all - length (r .last)) all
+
+creates : ℕ → List Event
+creates n = replicate n (call 0 1 0 0 0)
+
+edges : List Edge
+edges =
+    -- create with 19 alive
+    edge 0 0 (creates 19)
+    (printed 0 (CarryOn 0) (Says (pos 20)) (Number 19) Absent 0 0 ∷ [])
+    -- create with 20 alive
+    ∷ edge 0 0 (creates 20)
+    (printed 0 (CarryOn 0) (Says (negsuc 0)) Absent Absent 0 0 ∷ [])
+    -- with 20, then a childless one is killed: that slot again, a new id
+    ∷ edge 0 0 (creates 20 ++ call 0 2 7 0 0 ∷ call 0 1 0 0 0 ∷ [])
+    (printed 0 (CarryOn 0) (Says (pos 0)) Absent Absent 0 64 ∷ printed 0 (CarryOn 0) (Says (pos 21)) (Number 6) Absent 0 0 ∷ [])
+    -- gap 2,147,483,647
+    ∷ edge 0 0 (call 2147483647 6 0 0 0 ∷ [])
+    (printed 0 (CarryOn 0) (Says (pos 2147483647)) Absent Absent 0 0 ∷ [])
+    -- gap 2,147,483,648
+    ∷ edge 0 0 (call 2147483648 6 0 0 0 ∷ [])
+    (printed 2 Nothing Silent Absent Absent 0 0 ∷ [])
+    -- P at 1
+    ∷ edge 0 1 (call 0 3 0 0 0 ∷ [])
+    (printed 0 (CarryOn 0) Silent Absent Absent 0 0 ∷ [])
+    -- P at 0 alone: panic
+    ∷ edge 0 0 (call 0 3 0 0 0 ∷ [])
+    (printed 0 Panic Silent Absent Absent 0 0 ∷ [])
+    -- V with a waiter: id 1 waits, id 2 wakes it, and the value stays 0, so that id 2 then waits
+    ∷ edge 0 0 (creates 1 ++ call 0 3 0 0 0 ∷ call 0 4 0 0 0 ∷ call 0 3 0 0 0 ∷ [])
+    (printed 0 (Run 1) Silent Absent Absent 0 0 ∷ printed 0 (CarryOn 1) Silent Absent Absent 1 0 ∷ printed 0 (Run 0) Silent Absent Absent 0 0 ∷ [])
+    -- V at the top, no handle: dies
+    ∷ edge 0 2147483647 (call 0 4 0 0 0 ∷ [])
+    (printed 0 Halt Silent Absent Absent 0 1 ∷ [])
+    -- line 7, bytes 2 and 1: device 0 receipt wins
+    ∷ edge 0 0 (Interrupt 0 7 2 1 ∷ [])
+    (printed 0 (CarryOn 0) Silent Absent (Number 40) 0 0 ∷ [])
+    -- the clock from 4,294,967,295 to 4: gap 5
+    ∷ edge 4294967295 0 (call 4 6 0 0 0 ∷ [])
+    (printed 0 (CarryOn 0) (Says (pos 5)) Absent Absent 0 0 ∷ [])
+    -- kill by a child of its parent: both end
+    ∷ edge 0 0 (creates 1 ++ call 0 10 0 0 0 ∷ call 0 2 1 0 0 ∷ [])
+    (printed 0 (Run 1) Silent Absent Absent 0 0 ∷ printed 0 Halt Silent Absent Absent 0 3 ∷ [])
+    ∷ []
+
+every-edge : map found edges ≡ map (λ r. r .last) edges
+unfolding rule-book found creates edges
+every-edge = refl
+
+-- The other edges, and those that a first look at the starred ones leaves open.
+others : List Edge
+others =
+    -- kill of a waiter, then V: the value rises, so that a P gets through
+    edge 0 0 (creates 1 ++ call 0 10 0 0 0 ∷ call 0 3 0 0 0 ∷ call 0 2 2 0 0 ∷ call 0 4 0 0 0 ∷ call 0 3 0 0 0 ∷ [])
+    (printed 0 (Run 0) Silent Absent Absent 0 0 ∷ printed 0 (CarryOn 0) (Says (pos 0)) Absent Absent 0 2 ∷ printed 0 (CarryOn 0) Silent Absent Absent 0 0 ∷ printed 0 (CarryOn 0) Silent Absent Absent 0 0 ∷ [])
+    -- two wait on a semaphore: first come first, also in the ready line
+    ∷ edge 0 0 (creates 2 ++ call 0 3 0 0 0 ∷ call 0 3 0 0 0 ∷ call 0 4 0 0 0 ∷ call 0 4 0 0 0 ∷ call 0 10 0 0 0 ∷ call 0 10 0 0 0 ∷ [])
+    (printed 0 (Run 2) Silent Absent Absent 0 0 ∷ printed 0 (CarryOn 2) Silent Absent Absent 1 0 ∷ printed 0 (CarryOn 2) Silent Absent Absent 2 0 ∷ printed 0 (Run 0) Silent Absent Absent 0 0 ∷ printed 0 (Run 1) Silent Absent Absent 0 0 ∷ [])
+    -- two wait for the pseudo-clock, a third on a sub-device between them: a tick wakes the two, first come first
+    ∷ edge 0 0 (creates 3 ++ call 0 7 0 0 0 ∷ call 0 5 5 0 0 ∷ call 0 7 0 0 0 ∷ Interrupt 0 2 0 0 ∷ call 0 10 0 0 0 ∷ call 0 10 0 0 0 ∷ [])
+    (printed 0 (Run 3) Silent Absent Absent 0 0 ∷ printed 0 (CarryOn 3) Silent Absent Absent 5 0 ∷ printed 0 (Run 0) Silent Absent Absent 0 0 ∷ printed 0 (Run 2) Silent Absent Absent 0 0 ∷ [])
+    -- three wait on a semaphore and the middle one is killed: the order of the others stays
+    ∷ edge 0 0 (creates 3 ++ call 0 10 0 0 0 ∷ call 0 3 0 0 0 ∷ call 0 3 0 0 0 ∷ call 0 3 0 0 0 ∷ call 0 2 3 0 0 ∷ call 0 4 0 0 0 ∷ call 0 4 0 0 0 ∷ [])
+    (printed 0 (CarryOn 0) (Says (pos 0)) Absent Absent 0 4 ∷ printed 0 (CarryOn 0) Silent Absent Absent 2 0 ∷ printed 0 (CarryOn 0) Silent Absent Absent 8 0 ∷ [])
+    -- a grandchild waits on a semaphore and its grandparent's child is killed: both end, and a V finds nobody
+    ∷ edge 0 0 (creates 1 ++ call 0 10 0 0 0 ∷ call 0 1 0 0 0 ∷ call 0 10 0 0 0 ∷ call 0 10 0 0 0 ∷ call 0 3 0 0 0 ∷ call 0 10 0 0 0 ∷ call 0 2 2 0 0 ∷ call 0 4 0 0 0 ∷ [])
+    (printed 0 (Run 0) Silent Absent Absent 0 0 ∷ printed 0 (CarryOn 0) (Says (pos 0)) Absent Absent 0 6 ∷ printed 0 (CarryOn 0) Silent Absent Absent 0 0 ∷ [])
+    -- three generations, and the eldest ends itself: all end
+    ∷ edge 0 0 (creates 1 ++ call 0 10 0 0 0 ∷ call 0 1 0 0 0 ∷ call 0 10 0 0 0 ∷ call 0 2 0 0 0 ∷ [])
+    (printed 0 (Run 0) Silent Absent Absent 0 0 ∷ printed 0 Halt Silent Absent Absent 0 7 ∷ [])
+    -- a tick with nobody waiting
+    ∷ edge 0 0 (Interrupt 0 2 0 0 ∷ [])
+    (printed 0 (CarryOn 0) Silent Absent Absent 0 0 ∷ [])
+    -- any event after halt: 1 comes before 5, 6, 2 and 4
+    ∷ edge 0 0 (call 0 2 0 0 0 ∷ call 0 6 0 0 0 ∷ Interrupt 0 9 0 0 ∷ Exception 4294967295 8 ∷ [])
+    (printed 0 Halt Silent Absent Absent 0 1 ∷ printed 1 Nothing Silent Absent Absent 0 0 ∷ printed 1 Nothing Silent Absent Absent 0 0 ∷ printed 1 Nothing Silent Absent Absent 0 0 ∷ [])
+    -- line 7, bytes 1 and 1: transmission before receipt of that device
+    ∷ edge 0 0 (Interrupt 0 7 1 1 ∷ [])
+    (printed 0 (CarryOn 0) Silent Absent (Number 32) 0 0 ∷ [])
+    -- alone on a sub-device the machine waits, refuses calls with 4, and keeps no permit for the next one
+    ∷ edge 0 0 (Interrupt 0 3 4 0 ∷ call 0 5 2 0 0 ∷ call 0 6 0 0 0 ∷ Interrupt 5 3 4 0 ∷ [])
+    (printed 0 (CarryOn 0) Silent Absent (Number 2) 0 0 ∷ printed 0 Wait Silent Absent (Number 2) 0 0 ∷ printed 4 Nothing Silent Absent Absent 0 0 ∷ printed 0 (Run 0) Silent Absent (Number 2) 1 0 ∷ [])
+    -- a trap in user mode and a TLB exception are passed up where there is a handle
+    ∷ edge 0 0 (call 0 1 0 0 9 ∷ call 0 10 0 0 0 ∷ Call 0 User (negsuc 5) 0 0 0 ∷ Call 0 Kernel (pos 7) 0 0 0 ∷ Exception 0 24 ∷ Exception 0 11 ∷ [])
+    (printed 0 (Run 1) Silent Absent Absent 0 0 ∷ printed 0 (PassUp 1 General) Silent Absent Absent 0 0 ∷ printed 0 (PassUp 1 General) Silent Absent Absent 0 0 ∷ printed 0 (PassUp 1 Tlb) Silent Absent Absent 0 0 ∷ printed 6 Nothing Silent Absent Absent 0 0 ∷ [])
+    ∷ []
+
+every-other : map found others ≡ map (λ r. r .last) others
+unfolding rule-book found creates others
+every-other = refl
