@@ -1,0 +1,286 @@
+//! How often each kind of event, answer and situation comes up over some seeds.
+
+use crate::desk::{Answer, Call, Desk, Event, Interrupt, Kind, Mode, GAP_MAX, SLOTS, VALUE_MAX};
+use crate::log::{Log, LogRefusal};
+use crate::{damage, generate, line, log};
+use std::collections::BTreeMap;
+use std::ops::RangeInclusive;
+
+/// The seeds and the length of the logs that are compared at the gate. What comes up in them is
+/// stated, and checked, in the tests below.
+pub const SEEDS: RangeInclusive<u64> = 1..=400;
+pub const EVENTS: usize = 400;
+
+/// The log of a seed in a sequence of logs: plain for an even seed, damaged for an odd one.
+pub fn log_of(seed: u64, events: usize) -> Vec<u8> {
+    if seed.is_multiple_of(2) {
+        generate::log(seed, events)
+    } else {
+        damage::log(seed, events)
+    }
+}
+
+/// All that is counted, by group. (A log can't reach refusal 3: its bytes hold too few gaps.)
+const NAMES: &[(&str, &[&str])] = &[
+    ("action", &["on", "run", "wait", "halt", "panic", "up0", "up1", "none"]),
+    ("call", &["-1", "-2", "-3", "-4", "-5", "-6", "-7", "-8", "-9", "-10"]),
+    ("call", &["0", "1 or more", "below -10", "-2147483648", "in user mode"]),
+    ("clock", &["stands still", "gap 2147483647", "gap 2147483648", "wraps"]),
+    ("create", &["denied", "with handle", "without handle", "in a slot again", "the twentieth"]),
+    ("exception", &["trap", "TLB", "odd"]),
+    ("line", &["1", "2", "3", "4", "5", "6", "7", "odd"]),
+    ("interrupt", &["no byte", "several bits", "wanted", "unwanted", "nobody running"]),
+    ("interrupt", &["receipt first", "wait again"]),
+    ("log", &["whole", "20", "21", "22", "23", "24", "25", "26"]),
+    ("refusal", &["0", "1", "2", "4", "5", "6"]),
+    ("P", &["through", "waits", "odd number"]),
+    ("V", &["raises", "wakes", "at the top", "odd number"]),
+    ("I/O", &["waits", "odd number"]),
+    ("terminate", &["caller", "by own id", "ancestor", "another"]),
+    ("terminate", &["nobody alive", "2147483648 or more"]),
+    ("tick", &["for nobody", "for one", "for several"]),
+    ("death", &["alone", "with descendants"]),
+];
+
+/// A count for each name, those that never came up too.
+pub struct Count(BTreeMap<String, u64>);
+
+impl Default for Count {
+    fn default() -> Self {
+        let names = NAMES
+            .iter()
+            .flat_map(|(group, names)| names.iter().map(move |name| (format!("{group}: {name}"), 0)));
+        Count(names.collect())
+    }
+}
+
+impl Count {
+    pub fn of_seeds(seeds: RangeInclusive<u64>, events: usize) -> Self {
+        let mut count = Count::default();
+        for seed in seeds {
+            count.log(log::open(&log_of(seed, events)));
+        }
+        count
+    }
+
+    pub fn rows(&self) -> impl Iterator<Item = (&str, u64)> {
+        self.0.iter().map(|(name, &times)| (name.as_str(), times))
+    }
+
+    /// Counts a log and its events.
+    pub fn log(&mut self, log: Result<Log, LogRefusal>) {
+        let Log { start, events } = match log {
+            Ok(log) => log,
+            Err(refusal) => return self.add("log", refusal.reason as u8),
+        };
+        let mut desk = start.desk();
+        for event in events {
+            match event {
+                Ok(event) => {
+                    let before = desk.clone();
+                    let answer = desk.event(&event);
+                    self.event(&before, &event, &answer);
+                }
+                Err(refusal) => return self.add("log", refusal.reason as u8),
+            }
+        }
+        self.add("log", "whole");
+    }
+
+    fn add(&mut self, group: &str, name: impl std::fmt::Display) {
+        let name = format!("{group}: {name}");
+        *self.0.get_mut(&name).expect("a name of the list") += 1;
+    }
+
+    fn event(&mut self, before: &Desk, event: &Event, answer: &Answer) {
+        let accepted = answer.refusal.is_none();
+        self.add("refusal", answer.refusal.map_or(0, |refusal| refusal as u8));
+        self.add("action", line::action(answer.action).0);
+        if !before.over {
+            self.clock(before.clock, event.clock);
+        }
+        match &event.kind {
+            Kind::Call(call) => self.call(call),
+            Kind::Interrupt(interrupt) => self.line(interrupt),
+            Kind::Exception { code: 8 | 11 | 29.. } => self.add("exception", "odd"),
+            Kind::Exception { code: 24.. } => self.add("exception", "TLB"),
+            Kind::Exception { .. } => self.add("exception", "trap"),
+        }
+        match &event.kind {
+            Kind::Call(call) if accepted && call.mode == Mode::Kernel => self.service(before, call, answer),
+            Kind::Interrupt(interrupt) if accepted => self.interrupt(before, interrupt, answer),
+            _ => {}
+        }
+        let terminate = matches!(&event.kind, Kind::Call(call) if call.mode == Mode::Kernel && call.a0 == -2);
+        match answer.ended.count_ones() {
+            1 if !terminate => self.add("death", "alone"),
+            2.. if !terminate => self.add("death", "with descendants"),
+            _ => {}
+        }
+    }
+
+    fn clock(&mut self, last: u32, now: u32) {
+        let gap = now.wrapping_sub(last);
+        match gap {
+            0 => self.add("clock", "stands still"),
+            GAP_MAX => self.add("clock", "gap 2147483647"),
+            0x8000_0000 => self.add("clock", "gap 2147483648"),
+            _ => {}
+        }
+        if now < last && gap <= GAP_MAX {
+            self.add("clock", "wraps");
+        }
+    }
+
+    fn call(&mut self, call: &Call) {
+        match call.a0 {
+            1.. => self.add("call", "1 or more"),
+            0 => self.add("call", "0"),
+            i32::MIN => self.add("call", i32::MIN),
+            -2147483647..=-11 => self.add("call", "below -10"),
+            _ if call.mode == Mode::User => self.add("call", "in user mode"),
+            number => self.add("call", number),
+        }
+    }
+
+    fn line(&mut self, interrupt: &Interrupt) {
+        match interrupt.line {
+            line @ 1..=7 => self.add("line", line),
+            _ => self.add("line", "odd"),
+        }
+        if matches!(
+            interrupt,
+            Interrupt { line: 3..=6, first: 0, .. } | Interrupt { line: 7, first: 0, second: 0 }
+        ) {
+            self.add("interrupt", "no byte");
+        }
+    }
+
+    /// An accepted call in kernel mode.
+    fn service(&mut self, before: &Desk, call: &Call, answer: &Answer) {
+        let number = call.a1 as usize;
+        match call.a0 {
+            -1 => self.create(before, call, answer),
+            -2 => self.terminate(before, call, answer),
+            -3 if number > 31 => self.add("P", "odd number"),
+            -3 if before.values[number] > 0 => self.add("P", "through"),
+            -3 => self.add("P", "waits"),
+            -4 if number > 31 => self.add("V", "odd number"),
+            -4 if before.values[number] == VALUE_MAX => self.add("V", "at the top"),
+            -4 if answer.woken != 0 => self.add("V", "wakes"),
+            -4 => self.add("V", "raises"),
+            -5 if number > 47 => self.add("I/O", "odd number"),
+            -5 => self.add("I/O", "waits"),
+            _ => {}
+        }
+    }
+
+    fn create(&mut self, before: &Desk, call: &Call, answer: &Answer) {
+        let Some(slot) = answer.newborn else {
+            return self.add("create", "denied");
+        };
+        self.add("create", if call.a3 == 0 { "without handle" } else { "with handle" });
+        if answer.result != Some(slot as i64 + 1) {
+            self.add("create", "in a slot again");
+        }
+        if before.alive() == SLOTS - 1 {
+            self.add("create", "the twentieth");
+        }
+    }
+
+    fn terminate(&mut self, before: &Desk, call: &Call, answer: &Answer) {
+        let own = before.running.map(|slot| before.process(slot).id);
+        let name = match answer.result {
+            Some(0) => "another",
+            Some(_) if call.a1 > i32::MAX as u32 => "2147483648 or more",
+            Some(_) => "nobody alive",
+            None if call.a1 == 0 => "caller",
+            None if own == Some(call.a1) => "by own id",
+            None => "ancestor",
+        };
+        self.add("terminate", name);
+    }
+
+    /// An accepted interrupt.
+    fn interrupt(&mut self, before: &Desk, interrupt: &Interrupt, answer: &Answer) {
+        let Interrupt { line, first, second } = *interrupt;
+        if before.running.is_none() {
+            self.add("interrupt", "nobody running");
+            if answer.woken == 0 {
+                self.add("interrupt", "wait again");
+            }
+        }
+        match (line, answer.woken.count_ones()) {
+            (1, _) => {}
+            (2, 0) => self.add("tick", "for nobody"),
+            (2, 1) => self.add("tick", "for one"),
+            (2, _) => self.add("tick", "for several"),
+            (_, 0) => self.add("interrupt", "unwanted"),
+            _ => self.add("interrupt", "wanted"),
+        }
+        if line > 2 && first.count_ones() + second.count_ones() > 1 {
+            self.add("interrupt", "several bits");
+        }
+        if first != 0 && answer.sub_device.is_some_and(|number| number >= 40) {
+            self.add("interrupt", "receipt first");
+        }
+    }
+}
+
+#[cfg(test)]
+mod tests {
+    use super::*;
+
+    /// `generate --count 1..400` prints these and more: 120,035 events in 400 logs.
+    const AT_THE_GATE: &[(&str, u64)] = &[
+        ("refusal: 0", 89_789),
+        ("refusal: 1", 12_976),
+        ("refusal: 2", 7_690),
+        ("refusal: 4", 4_558),
+        ("refusal: 5", 2_996),
+        ("refusal: 6", 2_026),
+        ("action: on", 49_527),
+        ("action: run", 22_097),
+        ("action: wait", 10_436),
+        ("action: halt", 40),
+        ("action: panic", 43),
+        ("action: up0", 1_052),
+        ("action: up1", 6_594),
+        ("log: whole", 215),
+        ("log: 20", 26),
+        ("log: 21", 27),
+        ("log: 22", 35),
+        ("log: 23", 50),
+        ("log: 24", 15),
+        ("log: 25", 16),
+        ("log: 26", 16),
+    ];
+
+    #[test]
+    fn nothing_is_missing_at_the_gate() {
+        let count = Count::of_seeds(SEEDS, EVENTS);
+        for (name, times) in count.rows() {
+            assert!(times > 0, "{name} never came up");
+        }
+        // The same on every machine.
+        for &(name, times) in AT_THE_GATE {
+            assert_eq!(count.0[name], times, "{name}");
+        }
+    }
+
+    #[test]
+    fn streams_live_long_and_lack_no_kind() {
+        let mut generator = generate::Generator::stream(1);
+        let mut stream = generator.start.to_field();
+        for _ in 0..50_000 {
+            stream.extend(generator.event().to_field());
+        }
+        let mut count = Count::default();
+        count.log(log::open_stream(&stream));
+        for (name, times) in count.rows() {
+            let ends = ["action: halt", "action: panic", "refusal: 1"].contains(&name);
+            let never = ends || name.starts_with("log: 2");
+            assert_eq!(times == 0, never, "{name} came up {times} times");
+        }
+    }
+}

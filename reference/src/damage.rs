@@ -1,0 +1,109 @@
+//! Damaged logs, so that every log refusal comes up.
+
+use crate::generate;
+use crate::log::{value_length, HEAD, MAX_BYTES};
+use crate::rng::Rng;
+
+/// The log of a seed, damaged once, or twice for one seed in five.
+pub fn log(seed: u64, count: usize) -> Vec<u8> {
+    let mut rng = Rng::new(!seed);
+    let mut bytes = generate::log(seed, count);
+    damage(&mut rng, &mut bytes);
+    if rng.one_in(5) {
+        damage(&mut rng, &mut bytes);
+    }
+    bytes
+}
+
+fn damage(rng: &mut Rng, bytes: &mut Vec<u8>) {
+    let fields = fields(bytes);
+    if fields.is_empty() {
+        return;
+    }
+    // The first and the last field as often as all between them.
+    let field = rng.index(fields.len());
+    let field = fields[rng.pick(&[0, field, field, fields.len() - 1])];
+    match rng.below(12) {
+        0 => bytes.truncate(field + rng.index(HEAD)),
+        1 => bytes.truncate(field + HEAD + rng.index(5)),
+        2 => bytes[field] = rng.pick(&[0, 5, 6, 255]),
+        3 => {
+            let step = rng.pick(&[1, 255]);
+            bytes[field + 1] = bytes[field + 1].wrapping_add(step);
+        }
+        4 => bytes[field + 2] = rng.pick(&[1, 128]),
+        5 => later_start(rng, bytes, field),
+        6 => drop(bytes.drain(..fields.get(1).copied().unwrap_or(0))),
+        7 => large_value(rng, bytes),
+        8 => bad_mode(rng, bytes, &fields),
+        9 => flip(rng, bytes),
+        10 => long(rng, bytes),
+        _ => bytes.truncate(rng.pick(&[0, 0, field])),
+    }
+}
+
+/// Where the fields of a log begin.
+fn fields(bytes: &[u8]) -> Vec<usize> {
+    let mut places = Vec::new();
+    let mut place = 0;
+    while let Some(length) = bytes.get(place).and_then(|&tag| value_length(tag)) {
+        if place + HEAD + length > bytes.len() {
+            break;
+        }
+        places.push(place);
+        place += HEAD + length;
+    }
+    places
+}
+
+/// The start again, before a field or at the end; perhaps with a value too large.
+fn later_start(rng: &mut Rng, bytes: &mut Vec<u8>, field: usize) {
+    let length = value_length(1).map_or(0, |length| HEAD + length).min(bytes.len());
+    let mut start = bytes[..length].to_vec();
+    if rng.one_in(2) {
+        start[length - 1] = 255;
+    }
+    let place = rng.pick(&[field, bytes.len()]);
+    bytes.splice(place..place, start);
+}
+
+/// A starting value of 2,147,483,648 or more.
+fn large_value(rng: &mut Rng, bytes: &mut [u8]) {
+    let value = HEAD + 4 + 4 * rng.index(32);
+    if let Some(highest) = bytes.get_mut(value + 3) {
+        *highest |= 128;
+    }
+}
+
+/// A call's mode byte above 1.
+fn bad_mode(rng: &mut Rng, bytes: &mut [u8], fields: &[usize]) {
+    let calls: Vec<usize> = fields.iter().copied().filter(|&place| bytes[place] == 2).collect();
+    if !calls.is_empty() {
+        bytes[rng.pick(&calls) + HEAD + 4] = rng.pick(&[2, 3, 128, 255]);
+    }
+}
+
+fn flip(rng: &mut Rng, bytes: &mut [u8]) {
+    for _ in 0..1 + rng.below(3) {
+        bytes[rng.index(bytes.len())] ^= 1 << rng.below(8);
+    }
+}
+
+/// Filled up with its own events to 65,536 bytes, to one more, or to some hundred more.
+fn long(rng: &mut Rng, bytes: &mut Vec<u8>) {
+    let more = rng.below(1000) as usize;
+    let length = MAX_BYTES + rng.pick(&[0, 1, 1, more]);
+    let events: Vec<u8> = bytes.iter().skip(HEAD + 132).copied().collect();
+    bytes.extend(events.into_iter().cycle().take(length.saturating_sub(bytes.len())));
+    bytes.resize(length, 0);
+}
+
+#[cfg(test)]
+mod tests {
+    #[test]
+    fn short_logs_can_be_damaged() {
+        for seed in 0..3000 {
+            super::log(seed, (seed % 4) as usize);
+        }
+    }
+}

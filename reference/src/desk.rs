@@ -1,0 +1,472 @@
+//! The machine: its tables, and what it answers to an event.
+
+use std::collections::VecDeque;
+
+pub const SLOTS: usize = 20;
+pub const SEMAPHORES: usize = 32;
+pub const SUB_DEVICES: usize = 48;
+/// "49 nucleus waiting lines: 48 sub-devices and the pseudo-clock."
+const NUCLEUS_LINES: usize = SUB_DEVICES + 1;
+const PSEUDO_CLOCK: usize = SUB_DEVICES;
+pub const VALUE_MAX: u32 = 2_147_483_647;
+pub const ID_MAX: u32 = 2_147_483_647;
+pub const GAP_MAX: u32 = 2_147_483_647;
+pub const TOTAL_MAX: u64 = 1 << 62;
+
+#[derive(Clone, Copy, Debug, PartialEq, Eq)]
+pub enum Mode {
+    User,
+    Kernel,
+}
+
+#[derive(Clone, Copy, Debug, PartialEq, Eq)]
+pub struct Call {
+    pub mode: Mode,
+    pub a0: i32,
+    pub a1: u32,
+    pub a2: u32,
+    pub a3: u32,
+}
+
+#[derive(Clone, Copy, Debug, PartialEq, Eq)]
+pub struct Interrupt {
+    pub line: u8,
+    pub first: u8,
+    pub second: u8,
+}
+
+#[derive(Clone, Copy, Debug, PartialEq, Eq)]
+pub enum Kind {
+    Call(Call),
+    Interrupt(Interrupt),
+    Exception { code: u8 },
+}
+
+#[derive(Clone, Copy, Debug, PartialEq, Eq)]
+pub struct Event {
+    pub clock: u32,
+    pub kind: Kind,
+}
+
+/// "When the desk says no": the numbers of the table.
+#[derive(Clone, Copy, Debug, PartialEq, Eq)]
+pub enum Refusal {
+    Over = 1,
+    ClockBack = 2,
+    TotalFull = 3,
+    NobodyRunning = 4,
+    BadInterrupt = 5,
+    BadException = 6,
+}
+
+#[derive(Clone, Copy, Debug, PartialEq, Eq)]
+pub enum PassUp {
+    Tlb,
+    General,
+}
+
+#[derive(Clone, Copy, Debug, PartialEq, Eq)]
+pub enum Action {
+    On(usize),
+    Run(usize),
+    Wait,
+    Halt,
+    Panic,
+    PassUp(usize, PassUp),
+    None,
+}
+
+#[derive(Clone, Copy, Debug, PartialEq, Eq)]
+pub struct Answer {
+    pub refusal: Option<Refusal>,
+    pub action: Action,
+    pub result: Option<i64>,
+    pub newborn: Option<usize>,
+    pub sub_device: Option<usize>,
+    pub woken: u64,
+    pub ended: u64,
+}
+
+impl Answer {
+    fn new(action: Action) -> Self {
+        Answer { refusal: None, action, result: None, newborn: None, sub_device: None, woken: 0, ended: 0 }
+    }
+
+    fn refused(refusal: Refusal) -> Self {
+        Answer { refusal: Some(refusal), ..Answer::new(Action::None) }
+    }
+
+    fn result(action: Action, result: i64) -> Self {
+        Answer { result: Some(result), ..Answer::new(action) }
+    }
+}
+
+/// Where a process that isn't running stands.
+#[derive(Clone, Copy, Debug, PartialEq, Eq)]
+enum Line {
+    Ready,
+    Semaphore(usize),
+    Nucleus(usize),
+}
+
+#[derive(Clone, Debug, PartialEq, Eq)]
+pub(crate) struct Process {
+    pub(crate) id: u32,
+    /// The parent's id, 0 for id 1.
+    pub(crate) parent: u32,
+    /// "kept, not used for order"
+    priority: u32,
+    /// The support handle, 0 for none.
+    pub(crate) handle: u32,
+    time: u64,
+    /// Nothing while it runs.
+    line: Option<Line>,
+}
+
+/// A start with a value above the limit: refusal 24.
+#[derive(Clone, Copy, Debug, PartialEq, Eq)]
+pub struct ValueTooLarge;
+
+#[derive(Clone, Debug, PartialEq, Eq)]
+pub struct Desk {
+    slots: [Option<Process>; SLOTS],
+    pub(crate) running: Option<usize>,
+    ready: VecDeque<usize>,
+    pub(crate) values: [u32; SEMAPHORES],
+    pub(crate) semaphores: [VecDeque<usize>; SEMAPHORES],
+    pub(crate) nucleus: [VecDeque<usize>; NUCLEUS_LINES],
+    pub(crate) last_id: u32,
+    pub(crate) clock: u32,
+    /// The sum of accepted gaps.
+    total: u64,
+    idle: u64,
+    ended_time: u64,
+    /// Halted or panicked.
+    pub(crate) over: bool,
+}
+
+impl Desk {
+    /// "Id 1 is then running in slot 0, with no parent and no support handle."
+    pub fn fresh(clock: u32, values: [u32; SEMAPHORES]) -> Result<Self, ValueTooLarge> {
+        if values.iter().any(|&value| value > VALUE_MAX) {
+            return Err(ValueTooLarge);
+        }
+        let mut desk = Desk {
+            slots: Default::default(),
+            running: Some(0),
+            ready: VecDeque::new(),
+            values,
+            semaphores: Default::default(),
+            nucleus: std::array::from_fn(|_| VecDeque::new()),
+            last_id: 1,
+            clock,
+            total: 0,
+            idle: 0,
+            ended_time: 0,
+            over: false,
+        };
+        desk.slots[0] = Some(Process { id: 1, parent: 0, priority: 0, handle: 0, time: 0, line: None });
+        Ok(desk)
+    }
+
+    /// What stands beside a refused start: "the machine left when the start with the least
+    /// numbers allowed ends its id 1 at once (call −2, clock unchanged)".
+    pub fn refused() -> Self {
+        let mut desk = Desk::fresh(0, [0; SEMAPHORES]).expect("0 is allowed");
+        desk.terminate(0, 0);
+        desk
+    }
+
+    /// Takes one event: refused, it leaves the machine as it was.
+    pub fn event(&mut self, event: &Event) -> Answer {
+        let gap = event.clock.wrapping_sub(self.clock);
+        if let Some(refusal) = self.refusal(&event.kind, gap) {
+            return Answer::refused(refusal);
+        }
+        self.clock = event.clock;
+        self.charge(gap.into());
+        match event.kind {
+            Kind::Call(call) => self.call(self.runner(), call),
+            Kind::Interrupt(interrupt) => self.interrupt(interrupt),
+            Kind::Exception { code: 24..=28 } => self.pass_up_or_die(PassUp::Tlb),
+            Kind::Exception { .. } => self.trap(),
+        }
+    }
+
+    /// "Checked in the order of the rows; the first that applies is given."
+    fn refusal(&self, kind: &Kind, gap: u32) -> Option<Refusal> {
+        if self.over {
+            Some(Refusal::Over)
+        } else if matches!(kind, Kind::Interrupt(interrupt) if !interrupt.is_known()) {
+            Some(Refusal::BadInterrupt)
+        } else if matches!(kind, Kind::Exception { code: 8 | 11 | 29.. }) {
+            Some(Refusal::BadException)
+        } else if gap > GAP_MAX {
+            Some(Refusal::ClockBack)
+        } else if self.total + u64::from(gap) > TOTAL_MAX {
+            Some(Refusal::TotalFull)
+        } else if self.running.is_none() && kind.needs_runner() {
+            Some(Refusal::NobodyRunning)
+        } else {
+            None
+        }
+    }
+
+    /// "A gap is charged, before anything else, to whoever was running, else to idle"
+    fn charge(&mut self, gap: u64) {
+        self.total += gap;
+        match self.running {
+            Some(slot) => self.process_mut(slot).time += gap,
+            None => self.idle += gap,
+        }
+    }
+
+    // Calls.
+
+    fn call(&mut self, caller: usize, call: Call) -> Answer {
+        let Call { a1, a2, a3, .. } = call;
+        let number = a1 as usize;
+        let on = Action::On(caller);
+        match call.a0 {
+            1.. => self.pass_up_or_die(PassUp::General),
+            _ if call.mode == Mode::User => self.trap(),
+            -1 => self.create(caller, a2, a3),
+            -2 => self.terminate(caller, a1),
+            -3 if number < SEMAPHORES => self.p(caller, number),
+            -4 if number < SEMAPHORES && self.values[number] < VALUE_MAX => self.v(caller, number),
+            -5 if number < SUB_DEVICES => {
+                Answer { sub_device: Some(number), ..self.leave(caller, Line::Nucleus(number)) }
+            }
+            -6 => Answer::result(on, self.process(caller).time as i64),
+            -7 => self.leave(caller, Line::Nucleus(PSEUDO_CLOCK)),
+            -8 => Answer::result(on, self.process(caller).handle.into()),
+            -9 if a1 == 0 => Answer::result(on, self.process(caller).id.into()),
+            -9 => Answer::result(on, self.process(caller).parent.into()),
+            -10 => self.leave(caller, Line::Ready),
+            _ => self.trap(),
+        }
+    }
+
+    /// "Result: its id, or −1 exactly when 20 are alive or every id is issued."
+    fn create(&mut self, caller: usize, priority: u32, handle: u32) -> Answer {
+        let action = Action::On(caller);
+        let free = self.slots.iter().position(Option::is_none);
+        let Some(slot) = free.filter(|_| self.last_id < ID_MAX) else {
+            return Answer::result(action, -1);
+        };
+        self.last_id += 1;
+        self.slots[slot] = Some(Process {
+            id: self.last_id,
+            parent: self.process(caller).id,
+            priority,
+            handle,
+            time: 0,
+            line: None,
+        });
+        self.join(slot, Line::Ready);
+        Answer { newborn: Some(slot), ..Answer::result(action, self.last_id.into()) }
+    }
+
+    /// "a1 = 0 means the caller, otherwise an id."
+    fn terminate(&mut self, caller: usize, id: u32) -> Answer {
+        let named = if id == 0 { Some(caller) } else { self.find(id) };
+        let Some(slot) = named else {
+            return Answer::result(Action::On(caller), -1);
+        };
+        let ended = self.end(slot);
+        let answer = match self.running {
+            Some(_) => Answer::result(Action::On(caller), 0),
+            None => Answer::new(self.schedule()),
+        };
+        Answer { ended, ..answer }
+    }
+
+    fn p(&mut self, caller: usize, number: usize) -> Answer {
+        if self.values[number] == 0 {
+            return self.leave(caller, Line::Semaphore(number));
+        }
+        self.values[number] -= 1;
+        Answer::new(Action::On(caller))
+    }
+
+    fn v(&mut self, caller: usize, number: usize) -> Answer {
+        let woken = self.wake(Line::Semaphore(number));
+        if woken == 0 {
+            self.values[number] += 1;
+        }
+        Answer { woken, ..Answer::new(Action::On(caller)) }
+    }
+
+    fn trap(&mut self) -> Answer {
+        self.pass_up_or_die(PassUp::General)
+    }
+
+    /// "with no support handle the running process and its descendants end, and schedule"
+    fn pass_up_or_die(&mut self, kind: PassUp) -> Answer {
+        let slot = self.runner();
+        if self.process(slot).handle != 0 {
+            return Answer::new(Action::PassUp(slot, kind));
+        }
+        let ended = self.end(slot);
+        Answer { ended, ..Answer::new(self.schedule()) }
+    }
+
+    // Interrupts.
+
+    fn interrupt(&mut self, interrupt: Interrupt) -> Answer {
+        let (woken, sub_device) = match interrupt.line {
+            1 => return self.leave(self.runner(), Line::Ready),
+            2 => (self.wake_all(Line::Nucleus(PSEUDO_CLOCK)), None),
+            _ => {
+                let number = interrupt.sub_device();
+                (self.wake(Line::Nucleus(number)), Some(number))
+            }
+        };
+        let action = match self.running {
+            Some(slot) => Action::On(slot),
+            None => self.schedule(),
+        };
+        Answer { woken, sub_device, ..Answer::new(action) }
+    }
+
+    // Lines and the scheduler.
+
+    /// "first in the ready line runs. If the line is empty: nobody alive, halt; someone waiting
+    /// on a nucleus line, wait; otherwise panic."
+    fn schedule(&mut self) -> Action {
+        self.running = self.ready.pop_front();
+        if let Some(slot) = self.running {
+            self.process_mut(slot).line = None;
+            Action::Run(slot)
+        } else if self.alive() == 0 {
+            self.over = true;
+            Action::Halt
+        } else if self.nucleus.iter().any(|line| !line.is_empty()) {
+            Action::Wait
+        } else {
+            self.over = true;
+            Action::Panic
+        }
+    }
+
+    /// The running process goes to the end of a line, then schedule.
+    fn leave(&mut self, slot: usize, line: Line) -> Answer {
+        self.running = None;
+        self.join(slot, line);
+        Answer::new(self.schedule())
+    }
+
+    fn join(&mut self, slot: usize, line: Line) {
+        self.process_mut(slot).line = Some(line);
+        self.line_mut(line).push_back(slot);
+    }
+
+    /// The first in the line goes to the end of the ready line; the mask names it.
+    fn wake(&mut self, line: Line) -> u64 {
+        let Some(slot) = self.line_mut(line).pop_front() else {
+            return 0;
+        };
+        self.join(slot, Line::Ready);
+        1 << slot
+    }
+
+    fn wake_all(&mut self, line: Line) -> u64 {
+        let mut woken = 0;
+        while !self.line_mut(line).is_empty() {
+            woken |= self.wake(line);
+        }
+        woken
+    }
+
+    /// Ends a process and all its descendants; the mask names them. "Ending a process removes it
+    /// from its line without changing the order of the others or any semaphore's value."
+    fn end(&mut self, slot: usize) -> u64 {
+        let Some(process) = self.slots[slot].take() else {
+            return 0;
+        };
+        match process.line {
+            Some(line) => self.line_mut(line).retain(|&other| other != slot),
+            None => self.running = None,
+        }
+        self.ended_time += process.time;
+        let mut ended = 1 << slot;
+        for other in 0..SLOTS {
+            if matches!(&self.slots[other], Some(child) if child.parent == process.id) {
+                ended |= self.end(other);
+            }
+        }
+        ended
+    }
+
+    fn line_mut(&mut self, line: Line) -> &mut VecDeque<usize> {
+        match line {
+            Line::Ready => &mut self.ready,
+            Line::Semaphore(number) => &mut self.semaphores[number],
+            Line::Nucleus(number) => &mut self.nucleus[number],
+        }
+    }
+
+    fn process_mut(&mut self, slot: usize) -> &mut Process {
+        self.slots[slot].as_mut().expect("lines hold the living")
+    }
+
+    fn runner(&self) -> usize {
+        self.running.expect("refusal 4 comes before")
+    }
+
+    // What the generator and the counts look at.
+
+    pub(crate) fn process(&self, slot: usize) -> &Process {
+        self.slots[slot].as_ref().expect("lines hold the living")
+    }
+
+    pub(crate) fn find(&self, id: u32) -> Option<usize> {
+        let named = |entry: &Option<Process>| matches!(entry, Some(process) if process.id == id);
+        self.slots.iter().position(named)
+    }
+
+    pub(crate) fn living(&self) -> impl Iterator<Item = &Process> {
+        self.slots.iter().flatten()
+    }
+
+    pub(crate) fn alive(&self) -> usize {
+        self.living().count()
+    }
+}
+
+impl Kind {
+    /// "call, exception or line 1 while nobody is running"
+    fn needs_runner(&self) -> bool {
+        match self {
+            Kind::Call(_) | Kind::Exception { .. } => true,
+            Kind::Interrupt(interrupt) => interrupt.line == 1,
+        }
+    }
+}
+
+impl Interrupt {
+    /// Refusal 5 is for the others: "line not 1 to 7; or line 3 to 6 with first byte zero; or line
+    /// 7 with both zero".
+    fn is_known(&self) -> bool {
+        match self.line {
+            1 | 2 => true,
+            3..=6 => self.first != 0,
+            7 => self.first != 0 || self.second != 0,
+            _ => false,
+        }
+    }
+
+    /// "the lowest pending device number; on line 7 transmission before receipt of that device"
+    fn sub_device(&self) -> usize {
+        if self.line < 7 {
+            let device = self.first.trailing_zeros() as usize;
+            return (usize::from(self.line) - 3) * 8 + device;
+        }
+        let device = (self.first | self.second).trailing_zeros() as usize;
+        let transmission = self.first >> device & 1 == 1;
+        device + if transmission { 32 } else { 40 }
+    }
+}
+
+#[cfg(test)]
+mod tests;

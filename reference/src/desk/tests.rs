@@ -1,0 +1,375 @@
+//! The whole example, the edges to try, the refusals and their order, and the rule of the tables.
+
+use super::*;
+use crate::count::{EVENTS, SEEDS};
+use crate::{generate, line, log};
+
+const ZERO: [u32; SEMAPHORES] = [0; SEMAPHORES];
+
+fn kernel(clock: u32, a0: i32, a1: u32) -> Event {
+    create(clock, a0, a1, 0)
+}
+
+/// A kernel call with a handle in a3.
+fn create(clock: u32, a0: i32, a1: u32, a3: u32) -> Event {
+    Event { clock, kind: Kind::Call(Call { mode: Mode::Kernel, a0, a1, a2: 7, a3 }) }
+}
+
+fn user(clock: u32, a0: i32) -> Event {
+    Event { clock, kind: Kind::Call(Call { mode: Mode::User, a0, a1: 0, a2: 0, a3: 0 }) }
+}
+
+fn interrupt(clock: u32, line: u8, first: u8, second: u8) -> Event {
+    Event { clock, kind: Kind::Interrupt(Interrupt { line, first, second }) }
+}
+
+fn exception(clock: u32, code: u8) -> Event {
+    Event { clock, kind: Kind::Exception { code } }
+}
+
+fn fresh(number: usize, value: u32) -> Desk {
+    let mut values = ZERO;
+    values[number] = value;
+    Desk::fresh(0, values).unwrap()
+}
+
+/// A fresh machine with some values and so many children of id 1, with handle 5, at clock 0.
+fn family(children: usize) -> Desk {
+    let mut desk = fresh(1, 1);
+    for _ in 0..children {
+        desk.event(&create(0, -1, 0, 5));
+    }
+    desk
+}
+
+/// The answer's line without its number.
+fn say(desk: &mut Desk, event: Event) -> String {
+    let answer = desk.event(&event);
+    line::Line { number: 0, answer }.to_string()[2..].to_string()
+}
+
+#[track_caller]
+fn play<const N: usize>(desk: &mut Desk, script: [(Event, &str); N]) {
+    for (number, (event, line)) in script.into_iter().enumerate() {
+        assert_eq!(say(desk, event), line, "step {number}: {event}");
+    }
+}
+
+/// A refusal leaves the machine as it was.
+#[track_caller]
+fn refuses(desk: &Desk, event: Event, number: u8) {
+    let mut after = desk.clone();
+    assert_eq!(say(&mut after, event), format!("{number} none - - - - 0 0"), "{event}");
+    assert_eq!(&after, desk);
+}
+
+#[test]
+fn whole_example() {
+    let mut values = ZERO;
+    values[0] = 1;
+    let mut desk = Desk::fresh(1000, values).unwrap();
+    play(
+        &mut desk,
+        [
+            (kernel(1500, -1, 0), "0 on 0 2 1 - 0 0"),
+            (kernel(1600, -3, 0), "0 on 0 - - - 0 0"),
+            (kernel(1700, -3, 0), "0 run 1 - - - 0 0"),
+            (kernel(1800, -6, 0), "0 on 1 100 - - 0 0"),
+            (kernel(1900, -4, 0), "0 on 1 - - - 1 0"),
+            (kernel(2000, -5, 32), "0 run 0 - - 32 0 0"),
+            (kernel(1990, -6, 0), "2 none - - - - 0 0"),
+            (interrupt(2100, 7, 1, 0), "0 on 0 - - 32 2 0"),
+        ],
+    );
+    assert_eq!((desk.process(0).time, desk.process(1).time), (800, 300));
+    play(&mut desk, [(kernel(2200, -2, 0), "0 halt - - - - 0 3")]);
+    assert_eq!((desk.ended_time, desk.idle, desk.total), (1200, 0, 1200));
+}
+
+#[test]
+fn creates() {
+    // "Create with 19 alive, with 20 (−1), with 20 then a childless one killed"
+    let mut desk = family(18);
+    play(
+        &mut desk,
+        [
+            (kernel(0, -1, 0), "0 on 0 20 19 - 0 0"),
+            (kernel(0, -1, 0), "0 on 0 -1 - - 0 0"),
+            (kernel(0, -2, 8), "0 on 0 0 - - 0 128"),
+            (kernel(0, -1, 0), "0 on 0 21 7 - 0 0"),
+        ],
+    );
+    let mut desk = family(0);
+    desk.last_id = ID_MAX - 1;
+    play(
+        &mut desk,
+        [(kernel(0, -1, 0), "0 on 0 2147483647 1 - 0 0"), (kernel(0, -1, 0), "0 on 0 -1 - - 0 0")],
+    );
+}
+
+#[test]
+fn clocks() {
+    // "Gap 2,147,483,647, 2,147,483,648", "Clock from 4,294,967,295 to 4 (gap 5)"
+    let mut desk = family(0);
+    refuses(&desk, kernel(GAP_MAX + 1, -6, 0), 2);
+    play(&mut desk, [(kernel(GAP_MAX, -6, 0), "0 on 0 2147483647 - - 0 0")]);
+    let mut desk = Desk::fresh(u32::MAX, ZERO).unwrap();
+    play(&mut desk, [(kernel(4, -6, 0), "0 on 0 5 - - 0 0")]);
+    // The gap of a refused event is part of the next one's.
+    let mut desk = family(0);
+    play(
+        &mut desk,
+        [
+            (kernel(10, -7, 0), "0 wait - - - - 0 0"),
+            (kernel(20, -6, 0), "4 none - - - - 0 0"),
+            (interrupt(30, 2, 0, 0), "0 run 0 - - - 1 0"),
+            (kernel(31, -6, 0), "0 on 0 11 - - 0 0"),
+        ],
+    );
+    assert_eq!((desk.idle, desk.total), (20, 31));
+}
+
+#[test]
+fn semaphores() {
+    // "P at 1, at 0 alone (panic)": a shared semaphore's waiter is no reason to wait.
+    let mut desk = fresh(3, 1);
+    play(&mut desk, [(kernel(0, -3, 3), "0 on 0 - - - 0 0"), (kernel(0, -3, 3), "0 panic - - - - 0 0")]);
+    refuses(&desk, interrupt(0, 2, 0, 0), 1);
+    // "V with a waiter", first come first; "Kill of a waiter, then V (value rises)"
+    let mut desk = family(3);
+    play(
+        &mut desk,
+        [
+            (kernel(0, -10, 0), "0 run 1 - - - 0 0"),
+            (kernel(0, -3, 0), "0 run 2 - - - 0 0"),
+            (kernel(0, -3, 0), "0 run 3 - - - 0 0"),
+            (kernel(0, -3, 0), "0 run 0 - - - 0 0"),
+            (kernel(0, -2, 3), "0 on 0 0 - - 0 4"),
+            (kernel(0, -4, 0), "0 on 0 - - - 2 0"),
+            (kernel(0, -4, 0), "0 on 0 - - - 8 0"),
+            (kernel(0, -4, 0), "0 on 0 - - - 0 0"),
+        ],
+    );
+    assert_eq!((desk.values[0], &desk.ready), (1, &VecDeque::from([1, 3])));
+    // "V at the top, no handle (dies)"; with a handle it is passed up, and not carried out.
+    let mut desk = fresh(31, VALUE_MAX);
+    play(
+        &mut desk,
+        [
+            (create(0, -1, 0, 5), "0 on 0 2 1 - 0 0"),
+            (kernel(0, -10, 0), "0 run 1 - - - 0 0"),
+            (kernel(0, -4, 31), "0 up1 1 - - - 0 0"),
+            (kernel(0, -3, 31), "0 on 1 - - - 0 0"),
+            (kernel(0, -4, 31), "0 on 1 - - - 0 0"),
+            (kernel(0, -10, 0), "0 run 0 - - - 0 0"),
+            (kernel(0, -4, 31), "0 halt - - - - 0 3"),
+        ],
+    );
+    assert_eq!(desk.values[31], VALUE_MAX);
+}
+
+#[test]
+fn devices() {
+    // "Line 7, bytes 2 and 1 (device 0 receipt wins)"
+    let mut desk = family(0);
+    play(
+        &mut desk,
+        [
+            (interrupt(0, 7, 2, 1), "0 on 0 - - 40 0 0"),
+            (interrupt(0, 7, 2, 2), "0 on 0 - - 33 0 0"),
+            (interrupt(0, 7, 0, 128), "0 on 0 - - 47 0 0"),
+            (interrupt(0, 3, 255, 0), "0 on 0 - - 0 0 0"),
+            (interrupt(0, 6, 128, 1), "0 on 0 - - 31 0 0"),
+            // No permit was stored.
+            (kernel(0, -5, 40), "0 wait - - - 40 0 0"),
+            (interrupt(0, 7, 1, 1), "0 wait - - - 32 0 0"),
+            (interrupt(0, 2, 9, 9), "0 wait - - - - 0 0"),
+            (interrupt(0, 7, 2, 1), "0 run 0 - - 40 1 0"),
+        ],
+    );
+    // "Tick with nobody waiting", and with two
+    let mut desk = family(2);
+    play(
+        &mut desk,
+        [
+            (interrupt(0, 2, 0, 0), "0 on 0 - - - 0 0"),
+            (kernel(0, -7, 0), "0 run 1 - - - 0 0"),
+            (kernel(0, -7, 0), "0 run 2 - - - 0 0"),
+            (interrupt(0, 2, 0, 0), "0 on 2 - - - 3 0"),
+            (interrupt(0, 1, 0, 0), "0 run 0 - - - 0 0"),
+        ],
+    );
+    assert_eq!(desk.ready, [1, 2]);
+}
+
+#[test]
+fn kills() {
+    // "Kill by a child of its parent (both end)": a grandchild in a line ends too.
+    let mut desk = family(1);
+    play(
+        &mut desk,
+        [
+            (kernel(0, -10, 0), "0 run 1 - - - 0 0"),
+            (kernel(0, -1, 0), "0 on 1 3 2 - 0 0"),
+            (kernel(0, -9, 1), "0 on 1 1 - - 0 0"),
+            (kernel(0, -10, 0), "0 run 0 - - - 0 0"),
+            (kernel(0, -10, 0), "0 run 2 - - - 0 0"),
+            (kernel(0, -1, 0), "0 on 2 4 3 - 0 0"),
+            (kernel(0, -5, 9), "0 run 1 - - 9 0 0"),
+            (kernel(0, -10, 0), "0 run 0 - - - 0 0"),
+            (kernel(0, -10, 0), "0 run 3 - - - 0 0"),
+            (kernel(0, -2, 2), "0 run 0 - - - 0 14"),
+            (interrupt(0, 4, 2, 0), "0 on 0 - - 9 0 0"),
+            // The dead, the unborn and the impossible; then a new id in an old slot.
+            (kernel(0, -2, 2), "0 on 0 -1 - - 0 0"),
+            (kernel(0, -2, 5), "0 on 0 -1 - - 0 0"),
+            (kernel(0, -2, 0x8000_0001), "0 on 0 -1 - - 0 0"),
+            (kernel(0, -1, 0), "0 on 0 5 1 - 0 0"),
+            (kernel(0, -2, 1), "0 halt - - - - 0 3"),
+        ],
+    );
+}
+
+#[test]
+fn small_calls() {
+    let mut desk = family(0);
+    play(
+        &mut desk,
+        [
+            (kernel(0, -10, 0), "0 run 0 - - - 0 0"),
+            (interrupt(0, 1, 0, 0), "0 run 0 - - - 0 0"),
+            (kernel(0, -8, 0), "0 on 0 0 - - 0 0"),
+            (kernel(0, -9, 0), "0 on 0 1 - - 0 0"),
+            (kernel(0, -9, 9), "0 on 0 0 - - 0 0"),
+            (create(0, -1, 0, u32::MAX), "0 on 0 2 1 - 0 0"),
+            (kernel(0, -10, 0), "0 run 1 - - - 0 0"),
+            (kernel(0, -8, 1), "0 on 1 4294967295 - - 0 0"),
+            (kernel(0, -9, 0), "0 on 1 2 - - 0 0"),
+            (kernel(0, -2, 2), "0 run 0 - - - 0 2"),
+        ],
+    );
+}
+
+#[test]
+fn pass_up_or_die() {
+    let general = [
+        user(0, -1),
+        user(0, -10),
+        user(0, 0),
+        user(0, 1),
+        kernel(0, 0, 0),
+        kernel(0, -11, 0),
+        kernel(0, i32::MIN, 0),
+        kernel(0, 1, 0),
+        kernel(0, i32::MAX, 0),
+        kernel(0, -3, 32),
+        kernel(0, -4, 32),
+        kernel(0, -3, 1 << 31),
+        kernel(0, -5, 48),
+        kernel(0, -5, u32::MAX),
+    ];
+    let traps = (0..24).filter(|code| ![8, 11].contains(code)).map(|code| exception(0, code));
+    let general = general.into_iter().chain(traps).map(|event| (event, 1));
+    for (event, kind) in general.chain((24..29).map(|code| (exception(0, code), 0))) {
+        let mut desk = family(1);
+        desk.event(&kernel(0, -10, 0));
+        let before = desk.clone();
+        play(&mut desk, [(event, &format!("0 up{kind} 1 - - - 0 0"))]);
+        assert_eq!(desk, before);
+        desk.event(&kernel(0, -10, 0));
+        play(&mut desk, [(event, "0 halt - - - - 0 3")]);
+    }
+}
+
+#[test]
+fn refusals_in_order() {
+    let bad_interrupts = [(0, 1, 1), (8, 1, 1), (255, 1, 1), (3, 0, 1), (6, 0, 1), (7, 0, 0)];
+    let bad_codes = [8, 11, 29, 255];
+    let back = u32::MAX;
+    let running = family(1);
+    let mut waiting = family(0);
+    waiting.event(&kernel(0, -7, 0));
+    let mut halted = family(1);
+    halted.event(&kernel(0, -2, 0));
+    for (line, first, second) in bad_interrupts {
+        for clock in [0, back] {
+            refuses(&running, interrupt(clock, line, first, second), 5);
+            refuses(&waiting, interrupt(clock, line, first, second), 5);
+            refuses(&halted, interrupt(clock, line, first, second), 1);
+        }
+    }
+    for code in bad_codes {
+        for clock in [0, back] {
+            refuses(&running, exception(clock, code), 6);
+            refuses(&waiting, exception(clock, code), 6);
+            refuses(&halted, exception(clock, code), 1);
+        }
+    }
+    // "the sum of accepted gaps would exceed": exactly 2 to the 62 is allowed.
+    let (mut full, mut waiting_full) = (running.clone(), waiting.clone());
+    full.total = TOTAL_MAX - 9;
+    waiting_full.total = TOTAL_MAX - 9;
+    let needy = |clock| [kernel(clock, -6, 0), exception(clock, 0), interrupt(clock, 1, 0, 0)];
+    for at in 0..3 {
+        refuses(&running, needy(back)[at], 2);
+        refuses(&full, needy(back)[at], 2);
+        refuses(&full, needy(10)[at], 3);
+        assert_eq!(full.clone().event(&needy(9)[at]).refusal, None);
+        refuses(&waiting_full, needy(10)[at], 3);
+        refuses(&waiting, needy(back)[at], 2);
+        refuses(&waiting, needy(10)[at], 4);
+        refuses(&halted, needy(10)[at], 1);
+    }
+    refuses(&waiting, interrupt(back, 2, 0, 0), 2);
+    refuses(&halted, interrupt(0, 2, 0, 0), 1);
+}
+
+#[test]
+fn refused_start() {
+    let mut values = ZERO;
+    values[31] = VALUE_MAX;
+    assert!(Desk::fresh(9, values).is_ok());
+    values[31] += 1;
+    assert_eq!(Desk::fresh(9, values), Err(ValueTooLarge));
+    let desk = Desk::refused();
+    assert_eq!((desk.alive(), desk.last_id, desk.clock, desk.total), (0, 1, 0, 0));
+    refuses(&desk, interrupt(0, 2, 0, 0), 1);
+}
+
+/// The rule of the tables, after every event of the plain logs of the gate's seeds.
+#[test]
+fn tables_stay_in_order() {
+    for seed in SEEDS {
+        let bytes = generate::log(seed, EVENTS);
+        let log = log::open(&bytes).unwrap();
+        let mut desk = log.start.desk();
+        for event in log.events {
+            desk.event(&event.unwrap());
+            in_order(&desk);
+        }
+    }
+}
+
+fn in_order(desk: &Desk) {
+    let times: u64 = desk.living().map(|process| process.time).sum();
+    assert_eq!(times + desk.idle + desk.ended_time, desk.total);
+    let mut places: Vec<(usize, Option<Line>)> = desk.running.iter().map(|&slot| (slot, None)).collect();
+    places.extend(desk.ready.iter().map(|&slot| (slot, Some(Line::Ready))));
+    for (number, line) in desk.semaphores.iter().enumerate() {
+        assert!(line.is_empty() || desk.values[number] == 0);
+        places.extend(line.iter().map(|&slot| (slot, Some(Line::Semaphore(number)))));
+    }
+    for (number, line) in desk.nucleus.iter().enumerate() {
+        places.extend(line.iter().map(|&slot| (slot, Some(Line::Nucleus(number)))));
+    }
+    assert_eq!(places.len(), desk.alive());
+    for (slot, line) in places {
+        let process = desk.process(slot);
+        assert_eq!(process.line, line);
+        assert_eq!(desk.find(process.id), Some(slot));
+        assert!(process.id <= desk.last_id && process.parent < process.id);
+        assert!(process.parent == 0 && process.id == 1 || desk.find(process.parent).is_some());
+    }
+    assert!(desk.values.iter().all(|&value| value <= VALUE_MAX));
+    assert!(desk.ready.is_empty() || desk.running.is_some());
+}

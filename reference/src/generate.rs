@@ -1,0 +1,301 @@
+//! Random logs that are interesting at every moment: the generator runs the desk beside it and
+//! looks at its tables before it writes the next event.
+
+use crate::desk::{
+    Call, Desk, Event, Interrupt, Kind, Mode, GAP_MAX, ID_MAX, SEMAPHORES, SUB_DEVICES, VALUE_MAX,
+};
+use crate::log::{Start, MAX_BYTES};
+use crate::rng::Rng;
+
+/// What the next event is about.
+type Topic = fn(&mut Generator) -> Kind;
+
+/// How often a topic comes up in logs, where much goes wrong, and in streams: a busy gateway.
+const MIX: [(Topic, u32, u32); 20] = [
+    (|g| g.kernel(-1, Generator::few), 14, 30),
+    (|g| g.kernel(-2, Generator::target), 5, 15),
+    (|g| g.p_or_v(-3), 14, 160),
+    (|g| g.p_or_v(-4), 12, 150),
+    (|g| g.kernel(-5, Generator::io_device), 9, 140),
+    (|g| g.kernel(-6, Generator::few), 3, 50),
+    (|g| g.kernel(-7, Generator::few), 4, 40),
+    (|g| g.kernel(-8, Generator::few), 2, 20),
+    (|g| g.kernel(-9, Generator::few), 3, 30),
+    (|g| g.kernel(-10, Generator::few), 4, 40),
+    (Generator::user_call, 2, 2),
+    (Generator::unknown_call, 3, 2),
+    (Generator::passed_up, 2, 60),
+    (|g| interrupt(1, g.rng.byte() & 1, g.rng.byte() & 1), 4, 40),
+    (Generator::tick, 4, 40),
+    (Generator::device, 12, 170),
+    (Generator::odd_line, 3, 2),
+    (Generator::trap, 2, 4),
+    (|g| exception(24 + g.rng.below(5) as u8), 2, 10),
+    (Generator::odd_code, 2, 2),
+];
+
+/// The events of a log or a stream, without end, after `start`.
+pub struct Generator {
+    pub start: Start,
+    rng: Rng,
+    desk: Desk,
+    mix: Vec<(Topic, u32)>,
+    stream: bool,
+    /// The few semaphores and sub-devices that are mostly used.
+    semaphores: [u32; 4],
+    devices: [u32; 5],
+    /// So many events come before one that ends the machine.
+    careful: usize,
+}
+
+/// The log of a seed: `count` events, or as many as 65,536 bytes hold.
+pub fn log(seed: u64, count: usize) -> Vec<u8> {
+    let mut generator = Generator::log(seed, count);
+    let mut bytes = generator.start.to_field();
+    for _ in 0..count {
+        let field = generator.event().to_field();
+        if bytes.len() + field.len() > MAX_BYTES {
+            break;
+        }
+        bytes.extend(field);
+    }
+    bytes
+}
+
+impl Generator {
+    /// Most machines live until shortly before the end of the log; one in eight may end anywhere.
+    fn log(seed: u64, count: usize) -> Self {
+        let mut generator = Generator::stream(seed);
+        generator.stream = false;
+        let rng = &mut generator.rng;
+        generator.careful = match rng.below(8) {
+            0 => rng.index(count + 1),
+            _ => count.saturating_sub(rng.index(16)),
+        };
+        // Each log has its own mix, and may lack some topics, but it creates.
+        generator.mix = MIX.map(|(topic, often, _)| (topic, often * rng.below(4))).to_vec();
+        generator.mix.push((MIX[0].0, 4));
+        generator
+    }
+
+    /// A recorded stream: its machine never ends.
+    pub fn stream(seed: u64) -> Self {
+        let mut rng = Rng::new(seed);
+        let first = rng.below(SEMAPHORES as u32);
+        let semaphores = [0, 7, 19, 31].map(|step| (first + step) % SEMAPHORES as u32);
+        let near = [[0, 0, 0], [0, 1, 2], [1, 2, 3], [VALUE_MAX, VALUE_MAX - 1, VALUE_MAX - 2]];
+        let mut values = [0; SEMAPHORES].map(|_| rng.pick(&[0, 0, 1, 2, 3, VALUE_MAX]));
+        for (number, among) in semaphores.into_iter().zip(near) {
+            values[number as usize] = rng.pick(&among);
+        }
+        let terminal = rng.below(8);
+        let devices = [rng.below(32), rng.below(32), rng.below(48), 32 + terminal, 40 + terminal];
+        let clock = rng.word();
+        let start = Start { clock: rng.pick(&[0, 1000, clock, u32::MAX - clock % 4096]), values };
+        let desk = start.desk();
+        let mix = MIX.map(|(topic, _, often)| (topic, often)).to_vec();
+        Generator { start, rng, desk, mix, stream: true, semaphores, devices, careful: usize::MAX }
+    }
+
+    /// The next event: tries some until one leaves the machine alive, as long as it should be.
+    pub fn event(&mut self) -> Event {
+        loop {
+            let clock = self.desk.clock.wrapping_add(self.gap());
+            let topic = self.topic();
+            let event = Event { clock, kind: topic(self) };
+            let mut after = self.desk.clone();
+            after.event(&event);
+            if !after.over || self.careful == 0 {
+                self.desk = after;
+                self.careful = self.careful.saturating_sub(1);
+                return event;
+            }
+        }
+    }
+
+    /// The time since the last accepted event: wraps, stands still, jumps, goes back.
+    fn gap(&mut self) -> u32 {
+        match self.rng.below(if self.stream { 2000 } else { 64 }) {
+            0 => GAP_MAX,
+            1 => GAP_MAX + 1,
+            2 => 0u32.wrapping_sub(1 + self.rng.below(5000)),
+            3 if !self.stream => self.rng.word(),
+            4..=7 => 0,
+            8 => u32::MAX - self.desk.clock,
+            9 => 0u32.wrapping_sub(self.desk.clock),
+            _ => 1 + self.rng.below(2000),
+        }
+    }
+
+    fn topic(&mut self) -> Topic {
+        let idle = self.desk.running.is_none() && !self.desk.over;
+        if idle && !self.rng.one_in(if self.stream { 500 } else { 4 }) {
+            return if self.rng.one_in(4) { Generator::tick } else { Generator::device };
+        }
+        let sum = self.mix.iter().map(|(_, often)| often).sum();
+        let mut place = self.rng.below(sum);
+        for &(topic, often) in &self.mix {
+            if place < often {
+                return topic;
+            }
+            place -= often;
+        }
+        unreachable!("the place is below the sum")
+    }
+
+    // Calls.
+
+    fn kernel(&mut self, a0: i32, a1: fn(&mut Self) -> u32) -> Kind {
+        let a1 = a1(self);
+        self.call(Mode::Kernel, a0, a1)
+    }
+
+    /// Most children get a handle (a3), lest a trap end them.
+    fn call(&mut self, mode: Mode, a0: i32, a1: u32) -> Kind {
+        let a2 = self.rng.word() >> self.rng.below(32);
+        let word = self.rng.word() | 1;
+        let none = self.rng.one_in(if self.stream { 20 } else { 5 });
+        let a3 = if none { 0 } else { self.rng.pick(&[1, 64, word, u32::MAX]) };
+        Kind::Call(Call { mode, a0, a1, a2, a3 })
+    }
+
+    /// A word that matters little, often 0.
+    fn few(&mut self) -> u32 {
+        let word = self.rng.word();
+        self.rng.pick(&[0, 0, 0, 1, 2, 1 << 31, word])
+    }
+
+    /// An id: the living, an ancestor, the caller, the dead, the unborn and the impossible.
+    fn target(&mut self) -> u32 {
+        let living: Vec<u32> = self.desk.living().map(|process| process.id).collect();
+        let last = self.desk.last_id;
+        let own = self.desk.running.map(|slot| self.desk.process(slot));
+        let (own, parent) = own.map_or((0, 0), |process| (process.id, process.parent));
+        if living.is_empty() {
+            return last;
+        }
+        match self.rng.below(12) {
+            0 => 0,
+            1 => own,
+            2 => parent,
+            3 => self.ancestor(parent),
+            4 => 1 + self.rng.below(last),
+            5 => last + 1 + self.rng.below(3),
+            6 => self.rng.pick(&living) | 1 << 31,
+            7 => self.rng.pick(&[ID_MAX, 1 << 31, u32::MAX]),
+            _ => self.rng.pick(&living),
+        }
+    }
+
+    fn ancestor(&mut self, mut id: u32) -> u32 {
+        while let Some(slot) = self.desk.find(id).filter(|_| self.rng.one_in(2)) {
+            id = self.desk.process(slot).parent;
+        }
+        id
+    }
+
+    /// Mostly a usual number; now and then any below the limit, or one that is too large.
+    fn number(&mut self, usual: u32, limit: u32) -> u32 {
+        match self.rng.below(if self.stream { 500 } else { 24 }) {
+            0 => self.rng.pick(&[limit, limit + 1, 255, usual + 256, usual | 1 << 31, u32::MAX]),
+            1 | 2 => self.rng.below(limit),
+            _ => usual,
+        }
+    }
+
+    fn semaphore(&mut self) -> u32 {
+        let usual = self.rng.pick(&self.semaphores);
+        self.number(usual, SEMAPHORES as u32)
+    }
+
+    fn io_device(&mut self) -> u32 {
+        let usual = self.rng.pick(&self.devices);
+        self.number(usual, SUB_DEVICES as u32)
+    }
+
+    /// P or V, so that values stay near 0 or near the top; V rather where somebody waits.
+    fn p_or_v(&mut self, a0: i32) -> Kind {
+        let number = self.semaphore();
+        let waited =
+            self.semaphores.into_iter().find(|&number| !self.desk.semaphores[number as usize].is_empty());
+        let (a0, a1) = match (self.desk.values.get(number as usize), waited) {
+            (_, Some(waited)) if a0 == -4 && self.rng.one_in(2) => (-4, waited),
+            (Some(4..0x4000_0000), _) => (-3, number),
+            (Some(0x4000_0000..0x7fff_fffc), _) => (-4, number),
+            _ => (a0, number),
+        };
+        self.call(Mode::Kernel, a0, a1)
+    }
+
+    fn user_call(&mut self) -> Kind {
+        let a0 = -(self.rng.below(12) as i32);
+        let a1 = self.few();
+        self.call(Mode::User, a0, a1)
+    }
+
+    fn unknown_call(&mut self) -> Kind {
+        let below = ((self.rng.word() | 1 << 31) as i32).min(-11);
+        let a0 = self.rng.pick(&[0, 0, -11, -12, -256 - 2, below, i32::MIN, i32::MIN + 1]);
+        self.kernel(a0, Generator::few)
+    }
+
+    fn passed_up(&mut self) -> Kind {
+        let positive = (self.rng.word() >> 1).max(1) as i32;
+        let mode = self.rng.pick(&[Mode::User, Mode::User, Mode::Kernel]);
+        let a0 = self.rng.pick(&[1, 2, 5, positive, i32::MAX]);
+        let a1 = self.few();
+        self.call(mode, a0, a1)
+    }
+
+    // Interrupts and exceptions.
+
+    fn tick(&mut self) -> Kind {
+        interrupt(2, self.rng.byte() & 1, self.rng.byte() & 1)
+    }
+
+    /// A device interrupt: mostly one that is wanted, with more bits pending.
+    fn device(&mut self) -> Kind {
+        let waiting = (0..48).filter(|&number| !self.desk.nucleus[number as usize].is_empty());
+        let wanted: Vec<u32> = waiting.collect();
+        let usual = wanted.is_empty() || self.rng.one_in(4);
+        let number = self.rng.pick(if usual { &self.devices } else { &wanted });
+        let line = 3 + (number / 8).min(4) as u8;
+        let bit = 1 << (number % 8);
+        // Higher devices may be pending too, or any.
+        let (mut more, mut other) = (self.rng.byte(), self.rng.byte());
+        match self.rng.below(4) {
+            0 => (more, other) = (0, 0),
+            1 | 2 => (more, other) = (more & !(bit - 1), other & !(bit - 1) & !bit),
+            _ => {}
+        }
+        if number < 40 {
+            interrupt(line, bit | more, other)
+        } else {
+            interrupt(line, other, bit | more)
+        }
+    }
+
+    fn odd_line(&mut self) -> Kind {
+        let byte = self.rng.byte();
+        let line = self.rng.pick(&[0, 8, 255, 3, 4, 5, 6, 7, byte]);
+        interrupt(line, 0, if line == 7 { 0 } else { byte })
+    }
+
+    fn trap(&mut self) -> Kind {
+        let codes: Vec<u8> = (0..24).filter(|code| ![8, 11].contains(code)).collect();
+        exception(self.rng.pick(&codes))
+    }
+
+    fn odd_code(&mut self) -> Kind {
+        let byte = self.rng.byte();
+        exception(self.rng.pick(&[8, 11, 29, 255, byte]))
+    }
+}
+
+fn interrupt(line: u8, first: u8, second: u8) -> Kind {
+    Kind::Interrupt(Interrupt { line, first, second })
+}
+
+fn exception(code: u8) -> Kind {
+    Kind::Exception { code }
+}

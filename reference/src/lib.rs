@@ -1,0 +1,9 @@
+//! The desk in ordinary Rust, unproved: what the proved desk is compared with, log by log.
+
+pub mod count;
+pub mod damage;
+pub mod desk;
+pub mod generate;
+pub mod line;
+pub mod log;
+pub mod rng;

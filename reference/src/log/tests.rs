@@ -1,0 +1,127 @@
+//! The log refusals, in the first, a middle and the last field, and their order.
+
+use super::*;
+use crate::{damage, generate};
+
+const START: Start = Start { clock: 0, values: [0; SEMAPHORES] };
+
+fn tick(clock: u32) -> Vec<u8> {
+    Event { clock, kind: Kind::Interrupt(Interrupt { line: 2, first: 0, second: 0 }) }.to_field()
+}
+
+fn call(mode: u8) -> Vec<u8> {
+    let call = Call { mode: Mode::Kernel, a0: -6, a1: 1, a2: 2, a3: 3 };
+    let mut field = Event { clock: 5, kind: Kind::Call(call) }.to_field();
+    field[HEAD + 4] = mode;
+    field
+}
+
+fn lines(log: &[u8]) -> String {
+    let mut out = Vec::new();
+    run(open(log), &mut out).unwrap();
+    String::from_utf8(out).unwrap()
+}
+
+/// The field as the first, a middle and the last one.
+fn places(field: &[u8]) -> [String; 3] {
+    let start = START.to_field();
+    let log = |fields: [&[u8]; 4]| lines(&fields.concat());
+    [
+        log([field, &tick(1), &tick(2), &tick(3)]),
+        log([&start, &tick(1), field, &tick(3)]),
+        log([&start, &tick(1), &tick(2), field]),
+    ]
+}
+
+#[track_caller]
+fn refused(field: &[u8], first: u8, middle: u8, last: u8) {
+    let one = "1 0 on 0 - - - 0 0\n";
+    let two = "2 0 on 0 - - - 0 0\n";
+    let expected =
+        [format!("log 0 {first}\n"), format!("{one}log 2 {middle}\n"), format!("{one}{two}log 3 {last}\n")];
+    assert_eq!(places(field), expected);
+}
+
+#[test]
+fn layout() {
+    assert_eq!(call(1), [2, 21, 0, 5, 0, 0, 0, 1, 250, 255, 255, 255, 1, 0, 0, 0, 2, 0, 0, 0, 3, 0, 0, 0]);
+    assert_eq!(tick(258), [3, 7, 0, 2, 1, 0, 0, 2, 0, 0]);
+    assert_eq!(Event { clock: 1, kind: Kind::Exception { code: 9 } }.to_field(), [4, 5, 0, 1, 0, 0, 0, 9]);
+    assert_eq!(START.to_field().len(), 135);
+    assert_eq!(lines(&START.to_field()), "");
+    assert_eq!(lines(&[START.to_field(), call(1)].concat()), "1 0 on 0 5 - - 0 0\n");
+    assert_eq!(lines(&[START.to_field(), call(0)].concat()), "1 0 halt - - - - 0 1\n");
+}
+
+#[test]
+fn unknown_tags_and_lengths() {
+    for tag in [0, 5, 255] {
+        let mut field = tick(2);
+        field[0] = tag;
+        refused(&field, 21, 21, 21);
+        // An unknown tag is seen before its length and its end.
+        refused(&[tag, 255, 255], 21, 21, 21);
+    }
+    for (at, byte) in [(1, 6), (1, 8), (1, 0), (2, 1), (2, 255)] {
+        let mut field = tick(2);
+        field[at] = byte;
+        refused(&field, 22, 22, 22);
+        refused(&field[..3], 22, 22, 22);
+    }
+}
+
+#[test]
+fn cut_short() {
+    let start = START.to_field();
+    for field in [&start, &tick(2), &call(1), &call(2)] {
+        for length in 1..field.len() {
+            let log = &field[..length];
+            assert_eq!(lines(log), "log 0 20\n");
+            assert_eq!(lines(&[&start[..], &tick(1), log].concat()), "1 0 on 0 - - - 0 0\nlog 2 20\n");
+        }
+    }
+}
+
+#[test]
+fn order_values_and_modes() {
+    // "23 first field not a start, or a later one is": before 24 and 25
+    let mut start = START;
+    refused(&call(2), 23, 25, 25);
+    refused(&call(255), 23, 25, 25);
+    assert_eq!(places(&call(1))[0], "log 0 23\n");
+    for number in [0, 16, 31] {
+        start.values[number] = VALUE_MAX;
+        assert_eq!(lines(&start.to_field()), "");
+        assert_eq!(places(&start.to_field())[1], "1 0 on 0 - - - 0 0\nlog 2 23\n");
+        start.values[number] += 1;
+        refused(&start.to_field(), 24, 23, 23);
+        start.values = [0; SEMAPHORES];
+    }
+}
+
+#[test]
+fn empty_and_long() {
+    assert_eq!(lines(&[]), "log 0 23\n");
+    let mut long = [START.to_field(), tick(1).repeat(6540)].concat();
+    assert!(long.len() < MAX_BYTES);
+    assert_eq!(lines(&long).lines().count(), 6540);
+    long.resize(MAX_BYTES, 3);
+    assert_eq!(lines(&long).lines().last(), Some("log 6541 20"));
+    long.push(3);
+    assert_eq!(lines(&long), "log 0 26\n");
+}
+
+#[test]
+fn reading_goes_on_after_halt() {
+    let log = [START.to_field(), call(0), tick(1), call(2)].concat();
+    assert_eq!(lines(&log), "1 0 halt - - - - 0 1\n2 1 none - - - - 0 0\nlog 3 25\n");
+}
+
+#[test]
+fn generated_logs_fit() {
+    let log = generate::log(1, 5000);
+    assert!(log.len() <= MAX_BYTES && log.len() > MAX_BYTES - 24);
+    assert!(open(&log).unwrap().events.all(|event| event.is_ok()));
+    assert_eq!(log, generate::log(1, 5000));
+    assert_ne!(damage::log(1, 400), generate::log(1, 400));
+}
