@@ -1,0 +1,14 @@
+use borrow.Author.Tests.{eq-eqb, ne-eqb}
+use Rattle.desk.proofs.calls.named.Statement.{statement}
+use Rattle.desk.proofs.calls.named.Tie as tie
+
+-- src/calls.rt:39:9
+returns : tie.Need-returns
+returns c = rw (eq-eqb (c .before .args .a1) 0 (c .if1 .taken))
+
+-- src/calls.rt:35:1
+returns-2 : tie.Need-returns-2
+returns-2 c = rw (ne-eqb (c .before .args .a1) 0 (c .if1 .left))
+
+pub named-spec : {M : Type 1} → statement M
+named-spec = tie.close (tie.spec returns returns-2)

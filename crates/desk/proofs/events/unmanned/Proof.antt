@@ -1,0 +1,35 @@
+-- `events::unmanned`: calls, exceptions and line 1 need somebody running. Assumes nothing.
+use borrow.Author.Tests.{ne-eqb}
+use Rattle.rules.specs.Rules.{needs-runner}
+use borrow.Author.Needs.{needs}
+use Rattle.desk.proofs.events.unmanned.Statement.{statement}
+use Rattle.desk.proofs.events.unmanned.Tie as tie
+
+enum-told : tie.Need-enum-told
+enum-told c = search needs
+
+enum-known-e : tie.Need-enum-known-e
+enum-known-e c = search needs
+
+enum-told-2 : tie.Need-enum-told-2
+enum-told-2 c = search needs
+
+returns : tie.Need-returns
+unfolding needs-runner
+returns c = rw (c .enum-told .given .1)
+
+returns-2 : tie.Need-returns-2
+unfolding needs-runner
+returns-2 c = rw (c .before .before .e .given .1, c .if1 .taken)
+
+returns-3 : tie.Need-returns-3
+unfolding needs-runner
+returns-3 c = rw (c .before .before .e .given .1, ne-eqb _ 1 (c .if1 .left))
+
+returns-4 : tie.Need-returns-4
+unfolding needs-runner
+returns-4 c = rw (c .enum-told2 .given .1)
+
+pub unmanned-spec : {M : Type 1} → statement M
+unmanned-spec =
+    tie.close (tie.spec enum-told enum-known-e enum-told-2 returns returns-2 returns-3 returns-4)
