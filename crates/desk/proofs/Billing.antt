@@ -44,9 +44,10 @@ tally-has ts r n h = omega (arith, tally-at (entry ts) r n h, tally-le (λ s. on
 pub time-within : (m : Machine) → Shape m → (s : ℕ) → s < base-slots → entry (m .times) s ≤ m .total
 time-within m g s h = omega (arith, g .spent, tally-has (m .times) s base-slots h)
 
--- ---- the gap
-pub gap-is : (r now last : ℕ) → r < 4294967296 → now < 4294967296 → last < 4294967296 → (r + last) % 2 ^ 32 ≡ now → r ≡ (now + 2 ^ 32 - last) % 2 ^ 32
-gap-is r now last a b c e = omega arith
+-- ---- the gap, wrapping at 32 bits
+pub gap-is : (m : Machine) (r now : ℕ) → r < 2 ^ 32 → now < 2 ^ 32 → m .last < 2 ^ 32 → (r + m .last) % 2 ^ 32 ≡ now → r ≡ gap now (view m)
+unfolding gap
+gap-is m r now a b c h = omega arith
 
 abbrev pub charged : Machine → ℕ → List ℕ → ℕ → Machine
 charged m now ts i = record { ids = m .ids; parents = m .parents; priorities = m .priorities; handles = m .handles; times = ts; lines = m .lines; ready = m .ready; nready = m .nready; waits = m .waits; nwaits = m .nwaits; running = m .running; sems = m .sems; next = m .next; status = m .status; last = now; total = m .total + gap now (view m); idle = i; ended = m .ended }

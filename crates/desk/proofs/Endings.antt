@@ -35,13 +35,11 @@ use Rattle.desk.specs.View.{row, seats, view, kin, Shape}
 use Rattle.desk.specs.Contracts.{Comes, Kills, with-result}
 use Rattle.desk.proofs.Seats.{Seat, seats-living, seated, living-seat, runner-seat}
 use Rattle.desk.proofs.Climbs.{kin-here}
+use Rattle.desk.proofs.Choosing.{comes-by}
 
 -- an answer so far that tells a result and who ended
 abbrev pub telling : Result → ℕ → Answer
 telling x e = record { refusal = 0; action = Nothing; result = x; newborn = Absent; device = Absent; woken = 0; ended = e }
-
-comes-by : (o p : Outcome) (r : Answered) → o ≡ p → Comes p r → Comes o r
-comes-by o p r e c = record { seen = e ∙ c .seen; shape = c .shape }
 
 -- the named end with whoever runs, and schedule
 pub dies : (n : ℕ) (m : Machine) (k : Killed) → Kills n m k → (x : Answer) → x ≡ telling Silent (k .ended) → (r : Answered) → Comes (schedule x (view (k .machine))) r → Comes (die n (view m)) r

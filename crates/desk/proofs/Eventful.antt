@@ -25,10 +25,6 @@ use Rattle.desk.specs.Contracts.{Comes, Answers}
 use Rattle.desk.proofs.Seats.{runs-one}
 
 -- ---- what the running process does
--- an outcome that is another
-pub comes-by : {o p : Outcome} {r : Answered} → o ≡ p → Comes p r → Comes o r
-comes-by e k = record { seen = e ∙ k .seen; shape = k .shape }
-
 module _ (m : Machine) (g : Shape m) where
   runs-does : m .running < base-slots → (does : Process → Outcome) → runner (view m) does ≡ does (row m (m .running))
   runs-does h does = ap (λ (l : List Process). first l (schedule plain (view m)) does) (runs-one m g h)
@@ -150,8 +146,3 @@ module _ (m : Machine) (g : Good m) (e : Event) (r : Answered) where
         same = λ no. absurd (no h);
         good = record { shape = does .shape; tables = subst (Tables base-slots base-sems) (ap (λ (o : Outcome). o .after) seen) (keeps base-slots base-sems (view m) e (g .tables)) };
       }
-
--- ---- the gap, wrapping at 32 bits
-pub gap-is : (m : Machine) (r now : ℕ) → r < 2 ^ 32 → now < 2 ^ 32 → m .last < 2 ^ 32 → (r + m .last) % 2 ^ 32 ≡ now → r ≡ gap now (view m)
-unfolding gap
-gap-is m r now a b c h = omega arith

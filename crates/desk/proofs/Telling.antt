@@ -7,20 +7,14 @@ use lib.IntN.{pos}
 use lib.ListN.{getD}
 use borrow.Author.Tests.{eq-eqb, ne-eqb}
 use Rattle.rules.specs.declared.Result.the-variants.{Says}
-use Rattle.rules.specs.Numbers.{base-slots, time-limit}
+use Rattle.rules.specs.Numbers.{base-slots}
 use Rattle.rules.specs.Rules.{identity, carry-on}
-use Rattle.lines.specs.Lines.{entry}
-use Rattle.lines.proofs.Occ.{tally-part, tally-more}
 use Rattle.desk.specs.declared.Machine.{Machine}
 use Rattle.desk.specs.View.{row, view, Shape}
 use Rattle.desk.specs.Contracts.{with-result}
 use Rattle.desk.proofs.Climbs.{elders-top, elders-up}
 
 module _ (m : Machine) (g : Shape m) where
-  -- nobody's time is more than all together
-  pub time-within : (s : ℕ) → s < base-slots → getD (m .times) s 0 ≤ time-limit
-  time-within s b = omega (arith, tally-part (entry (m .times)) (s + 1) base-slots (omega arith), tally-more (entry (m .times)) s, g .spent, g .within)
-
   module _ (h : m .running < base-slots) (a1 : ℕ) where
     -- "a1 = 0 own id"
     pub own-id : a1 ≡ 0 → identity (row m (m .running)) a1 0 0 (view m) ≡ carry-on (row m (m .running)) (with-result (Says (pos (getD (m .ids) (m .running) 0)))) (view m)

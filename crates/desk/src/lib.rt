@@ -13,6 +13,7 @@ mod events;
 mod interrupts;
 mod kills;
 mod lines_of;
+pub mod looks;
 mod schedules;
 mod starts;
 

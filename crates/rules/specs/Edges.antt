@@ -112,6 +112,36 @@ others =
     -- a trap in user mode and a TLB exception are passed up where there is a handle
     ∷ edge 0 0 (call 0 1 0 0 9 ∷ call 0 10 0 0 0 ∷ Call 0 User (negsuc 5) 0 0 0 ∷ Call 0 Kernel (pos 7) 0 0 0 ∷ Exception 0 24 ∷ Exception 0 11 ∷ [])
     (printed 0 (Run 1) Silent Absent Absent 0 0 ∷ printed 0 (PassUp 1 General) Silent Absent Absent 0 0 ∷ printed 0 (PassUp 1 General) Silent Absent Absent 0 0 ∷ printed 0 (PassUp 1 Tlb) Silent Absent Absent 0 0 ∷ printed 6 Nothing Silent Absent Absent 0 0 ∷ [])
+    -- the order of the rows: a bad line or code comes before a clock gone back, and that before nobody running; then 4 for all three kinds.
+    -- A tick that wakes nobody leaves the machine waiting
+    ∷ edge 5 0 (call 5 5 2 0 0 ∷ Interrupt 4 9 0 0 ∷ Interrupt 4 3 0 1 ∷ Exception 4 8 ∷ call 4 6 0 0 0 ∷ Interrupt 5 1 0 0 ∷ Exception 5 24 ∷ call 5 6 0 0 0 ∷ Interrupt 5 2 0 0 ∷ [])
+    (printed 0 Wait Silent Absent (Number 2) 0 0 ∷ printed 5 Nothing Silent Absent Absent 0 0 ∷ printed 5 Nothing Silent Absent Absent 0 0 ∷ printed 6 Nothing Silent Absent Absent 0 0 ∷ printed 2 Nothing Silent Absent Absent 0 0 ∷ printed 4 Nothing Silent Absent Absent 0 0 ∷ printed 4 Nothing Silent Absent Absent 0 0 ∷ printed 4 Nothing Silent Absent Absent 0 0 ∷ printed 0 Wait Silent Absent Absent 0 0 ∷ [])
+    -- a refused event moves no clock: its gap is idle with the next accepted one's, and the process has run 10 and 5
+    ∷ edge 0 0 (call 10 5 2 0 0 ∷ call 20 6 0 0 0 ∷ Interrupt 30 3 4 0 ∷ call 35 6 0 0 0 ∷ [])
+    (printed 4 Nothing Silent Absent Absent 0 0 ∷ printed 0 (Run 0) Silent Absent (Number 2) 1 0 ∷ printed 0 (CarryOn 0) (Says (pos 15)) Absent Absent 0 0 ∷ [])
+    -- newborns run in the order of birth; a yield and line 1 send whoever runs to the end, and alone it runs again
+    ∷ edge 0 0 (creates 2 ++ call 0 10 0 0 0 ∷ Interrupt 0 1 0 0 ∷ call 0 10 0 0 0 ∷ [])
+    (printed 0 (Run 1) Silent Absent Absent 0 0 ∷ printed 0 (Run 2) Silent Absent Absent 0 0 ∷ printed 0 (Run 0) Silent Absent Absent 0 0 ∷ [])
+    ∷ edge 0 0 (call 0 10 0 0 0 ∷ Interrupt 0 1 0 0 ∷ [])
+    (printed 0 (Run 0) Silent Absent Absent 0 0 ∷ printed 0 (Run 0) Silent Absent Absent 0 0 ∷ [])
+    -- two wait on one sub-device: an interrupt wakes the first, of several pending devices the lowest is served
+    ∷ edge 0 0 (creates 2 ++ call 0 5 13 0 0 ∷ call 0 5 13 0 0 ∷ Interrupt 0 4 160 0 ∷ Interrupt 0 4 32 0 ∷ [])
+    (printed 0 (Run 2) Silent Absent (Number 13) 0 0 ∷ printed 0 (CarryOn 2) Silent Absent (Number 13) 1 0 ∷ printed 0 (CarryOn 2) Silent Absent (Number 13) 2 0 ∷ [])
+    -- dying of a trap: the child ends too
+    ∷ edge 0 0 (creates 1 ++ Exception 0 23 ∷ [])
+    (printed 0 Halt Silent Absent Absent 0 3 ∷ [])
+    -- an id that names nobody alive; a new id in an old slot is another id
+    ∷ edge 0 0 (creates 1 ++ call 0 2 3 0 0 ∷ call 0 2 2 0 0 ∷ call 0 2 2 0 0 ∷ call 0 1 0 0 0 ∷ call 0 2 2 0 0 ∷ call 0 2 3 0 0 ∷ [])
+    (printed 0 (CarryOn 0) (Says (negsuc 0)) Absent Absent 0 0 ∷ printed 0 (CarryOn 0) (Says (pos 0)) Absent Absent 0 2 ∷ printed 0 (CarryOn 0) (Says (negsuc 0)) Absent Absent 0 0 ∷ printed 0 (CarryOn 0) (Says (pos 3)) (Number 1) Absent 0 0 ∷ printed 0 (CarryOn 0) (Says (negsuc 0)) Absent Absent 0 0 ∷ printed 0 (CarryOn 0) (Says (pos 0)) Absent Absent 0 2 ∷ [])
+    -- own id, the parent's (0 for id 1), the support handle; a child has no handle of its parent's
+    ∷ edge 0 0 (call 0 9 0 0 0 ∷ call 0 9 7 0 0 ∷ call 0 8 0 0 0 ∷ call 0 1 0 0 9 ∷ call 0 10 0 0 0 ∷ call 0 9 0 0 0 ∷ call 0 9 7 0 0 ∷ call 0 8 0 0 0 ∷ call 0 1 0 0 0 ∷ call 0 10 0 0 0 ∷ call 0 10 0 0 0 ∷ call 0 9 7 0 0 ∷ call 0 8 0 0 0 ∷ [])
+    (printed 0 (CarryOn 0) (Says (pos 1)) Absent Absent 0 0 ∷ printed 0 (CarryOn 0) (Says (pos 0)) Absent Absent 0 0 ∷ printed 0 (CarryOn 0) (Says (pos 0)) Absent Absent 0 0 ∷ printed 0 (CarryOn 0) (Says (pos 2)) (Number 1) Absent 0 0 ∷ printed 0 (Run 1) Silent Absent Absent 0 0 ∷ printed 0 (CarryOn 1) (Says (pos 2)) Absent Absent 0 0 ∷ printed 0 (CarryOn 1) (Says (pos 1)) Absent Absent 0 0 ∷ printed 0 (CarryOn 1) (Says (pos 9)) Absent Absent 0 0 ∷ printed 0 (CarryOn 1) (Says (pos 3)) (Number 2) Absent 0 0 ∷ printed 0 (Run 0) Silent Absent Absent 0 0 ∷ printed 0 (Run 2) Silent Absent Absent 0 0 ∷ printed 0 (CarryOn 2) (Says (pos 2)) Absent Absent 0 0 ∷ printed 0 (CarryOn 2) (Says (pos 0)) Absent Absent 0 0 ∷ [])
+    -- what is treated as a program trap, with a handle: a0 = 0, a0 below −10, P and V past the last semaphore, V at the top, I/O past the last sub-device, code 23
+    ∷ edge 0 2147483647 (call 0 1 0 0 9 ∷ call 0 10 0 0 0 ∷ Call 0 Kernel (pos 0) 0 0 0 ∷ call 0 11 0 0 0 ∷ call 0 3 32 0 0 ∷ call 0 4 32 0 0 ∷ call 0 4 0 0 0 ∷ call 0 5 48 0 0 ∷ Exception 0 23 ∷ [])
+    (printed 0 (Run 1) Silent Absent Absent 0 0 ∷ replicate 7 (printed 0 (PassUp 1 General) Silent Absent Absent 0 0))
+    -- a starting value above the limit: the machine beside it refuses every event with 1
+    ∷ edge 0 2147483648 (call 0 6 0 0 0 ∷ Interrupt 0 2 0 0 ∷ [])
+    (printed 1 Nothing Silent Absent Absent 0 0 ∷ printed 1 Nothing Silent Absent Absent 0 0 ∷ [])
     ∷ []
 
 every-other : map found others ≡ map (λ r. r .last) others

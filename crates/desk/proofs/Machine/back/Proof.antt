@@ -1,3 +1,4 @@
+-- `Machine::back` meets its contract.
 use mathlib.Core.Path.{_≡_, refl, sym, ap, _∙_}
 use native.Mathlib.Omega.{arith}
 use Prim.Native.Nat.{ℕ, _+_, _-_, _<_, _≤_}
@@ -8,28 +9,19 @@ use Rattle.rules.specs.Machine.{back}
 use borrow.Author.Needs.{needs}
 use Rattle.desk.proofs.Machine.back.Statement.{statement}
 use Rattle.desk.proofs.Machine.back.Tie as tie
-use Rattle.desk.proofs.Machine.back.Reads as reads
-use Rattle.desk.proofs.Machine.back.Lts as lts
-use Rattle.desk.proofs.Machine.schedule.Reads as schedule-reads
-use Rattle.lines.proofs.push.Reads as push-reads
 
--- src/lines_of.rt:33:34
 cast-push : tie.Need-cast-push
 cast-push c = search needs
 
--- src/lines_of.rt:33:9
 push-requires : tie.Need-push-requires
 push-requires c κs = omega (arith, room-beside (c .before .args .t1) (c .before .pre .0) (c .before .pre .1))
 
--- src/lines_of.rt:34:23
 add-self : tie.Need-add-self
 add-self c = search needs
 
--- src/lines_of.rt:36:9
 schedule-requires : tie.Need-schedule-requires
 schedule-requires c κs = (rw (c .push .ensures) (back-step (c .before .before .args .t1) (c .before .before .pre .0) (c .before .before .pre .1) .shape), refl)
 
--- src/lines_of.rt:27:5
 returns : tie.Need-returns
 returns c =
     let m = c .before .before .before .args .t1 in

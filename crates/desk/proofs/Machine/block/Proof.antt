@@ -1,3 +1,4 @@
+-- `Machine::block` meets its contract.
 use mathlib.Core.Path.{_≡_, refl, sym, ap, _∙_}
 use native.Mathlib.Omega.{arith}
 use Prim.Native.Nat.{ℕ, _+_, _-_, _<_, _≤_}
@@ -9,32 +10,22 @@ use Rattle.desk.specs.Codes.{decode}
 use borrow.Author.Needs.{needs}
 use Rattle.desk.proofs.Machine.block.Statement.{statement}
 use Rattle.desk.proofs.Machine.block.Tie as tie
-use Rattle.desk.proofs.Machine.block.Reads as reads
-use Rattle.desk.proofs.Machine.block.Lts as lts
-use Rattle.desk.proofs.Machine.schedule.Reads as schedule-reads
-use Rattle.lines.proofs.push.Reads as push-reads
 
--- src/lines_of.rt:46:34
 cast-push : tie.Need-cast-push
 cast-push c = search needs
 
--- src/lines_of.rt:46:9
 push-requires : tie.Need-push-requires
 push-requires c κs = omega (arith, room-beside (c .before .args .t1) (c .before .pre .0) (c .before .pre .1))
 
--- src/lines_of.rt:47:23
 add-self : tie.Need-add-self
 add-self c = search needs
 
--- src/lines_of.rt:48:9
 element-write-self : tie.Need-element-write-self
 element-write-self c = search needs
 
--- src/lines_of.rt:50:9
 schedule-requires : tie.Need-schedule-requires
 schedule-requires c κs = (rw (c .push .ensures) (block-step (c .before .before .args .t1) (c .before .before .pre .0) (c .before .before .pre .1) (c .before .before .args .code) (c .before .before .pre .2) (c .before .before .pre .3) .shape), refl)
 
--- src/lines_of.rt:40:5
 returns : tie.Need-returns
 returns c =
     let m = c .before .before .before .args .t1 in

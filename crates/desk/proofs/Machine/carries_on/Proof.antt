@@ -1,3 +1,4 @@
+-- `Machine::carries_on` meets its contract.
 use mathlib.Core.Path.{_≡_, refl, sym, ap, _∙_}
 use native.Mathlib.Omega.{arith}
 use Prim.Native.Nat.{ℕ, _+_, _-_, _<_, _≤_}
@@ -5,19 +6,13 @@ use Rattle.desk.proofs.Choosing.{carry-comes}
 use borrow.Author.Needs.{needs}
 use Rattle.desk.proofs.Machine.carries_on.Statement.{statement}
 use Rattle.desk.proofs.Machine.carries_on.Tie as tie
-use Rattle.desk.proofs.Machine.carries_on.Reads as reads
-use Rattle.desk.proofs.Machine.carries_on.Lts as lts
-use Rattle.desk.proofs.does.Reads as does-reads
 
--- src/schedules.rt:74:39
 cast-t5 : tie.Need-cast-t5
 cast-t5 c = search needs
 
--- src/schedules.rt:74:13
 does-requires : tie.Need-does-requires
 does-requires c κs = search needs
 
--- src/schedules.rt:69:5
 returns : tie.Need-returns
 returns c = rw (c .does .ensures) (carry-comes (c .before .args .x) (c .before .args .self) (c .before .pre .0))
 

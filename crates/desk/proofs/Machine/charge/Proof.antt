@@ -1,3 +1,4 @@
+-- `Machine::charge` meets its contract.
 use mathlib.Core.Path.{_≡_, refl, sym, ap, _∙_}
 use native.Mathlib.Omega.{arith}
 use Prim.Native.Nat.{ℕ, _+_, _-_, _<_, _≤_}
@@ -7,57 +8,43 @@ use Rattle.desk.specs.View.{view}
 use borrow.Author.Needs.{needs}
 use Rattle.desk.proofs.Machine.charge.Statement.{statement}
 use Rattle.desk.proofs.Machine.charge.Tie as tie
-use Rattle.desk.proofs.Machine.charge.Reads as reads
-use Rattle.desk.proofs.Machine.charge.Lts as lts
-use Rattle.std.proofs.num.wrapping_sub_u32.Reads as wrapping-sub-u32-reads
 
--- src/charges.rt:15:17
 wrapping-sub-u32-requires : tie.Need-wrapping-sub-u32-requires
 wrapping-sub-u32-requires c κs = search needs
 
--- src/charges.rt:15:17
 cast-g : tie.Need-cast-g
 cast-g c = search needs
 
--- src/charges.rt:17:22
 add-self : tie.Need-add-self
 add-self c = search needs
 
--- src/charges.rt:20:30
 mul-self : tie.Need-mul-self
 mul-self c = search needs
 
--- src/charges.rt:20:30
 element-copy-out-self : tie.Need-element-copy-out-self
 element-copy-out-self c = search needs
 
 -- the code's gap is the rule book's
 gap-at : (c : tie.After-wrapping-sub-u32) → c .wrapping-sub-u32 .result ≡ gap (c .before .args .now) (view (c .before .args .t1))
-unfolding gap
-gap-at c = gap-is (c .wrapping-sub-u32 .result) (c .before .args .now) (c .before .args .t1 .last) (search needs) (search needs) (search needs) (c .wrapping-sub-u32 .ensures)
+gap-at c = gap-is (c .before .args .t1) (c .wrapping-sub-u32 .result) (c .before .args .now) (search needs) (search needs) (search needs) (c .wrapping-sub-u32 .ensures)
 
 add-self-2 : tie.Need-add-self-2
 add-self-2 c =
     let m = c .before .before .before .args .t1 in
     omega (arith, time-within m (c .before .before .before .pre .0) (m .running) (c .before .if1 .taken), c .before .before .before .pre .1, gap-at (c .before .before))
 
--- src/charges.rt:20:13
 mul-self-2 : tie.Need-mul-self-2
 mul-self-2 c = search needs
 
--- src/charges.rt:20:13
 element-write-self : tie.Need-element-write-self
 element-write-self c = search needs
 
--- src/charges.rt:22:25
 add-self-3 : tie.Need-add-self-3
 add-self-3 c = search needs
 
--- src/charges.rt:11:5
 returns : tie.Need-returns
 returns c = (rw (gap-at (c .before .before)) (charge-busy (c .before .before .before .args .t1) (c .before .before .before .pre .0) (c .before .before .before .args .now) (c .before .before .before .pre .1) (c .before .if1 .taken)), refl)
 
--- src/charges.rt:11:5
 returns-2 : tie.Need-returns-2
 returns-2 c = (rw (gap-at (c .before)) (charge-idle (c .before .before .args .t1) (c .before .before .pre .0) (c .before .before .args .now) (c .before .before .pre .1) (omega (arith, c .if1 .left))), refl)
 

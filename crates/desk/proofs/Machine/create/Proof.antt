@@ -1,3 +1,4 @@
+-- `Machine::create` meets its contract.
 use mathlib.Core.Path.{_≡_, sym, _∙_}
 use Prim.Native.Nat.{_<_}
 use native.Mathlib.Omega.{arith}
@@ -17,110 +18,85 @@ found c = sym (c .before .before .before .lowest-free .ensures) ∙ c .before .s
 slot : (c : tie.After-known-told) → c .before .s .given .0 .0 < base-slots
 slot c = let st = c .before .before .before .before .before .before .before in found-slot (st .args .t1) (st .pre .0) (c .before .s .given .0 .0) (found c)
 
--- src/calls.rt:80:13
 replies-requires : tie.Need-replies-requires
 replies-requires c κs = search needs
 
--- src/calls.rt:80:13
 returns : tie.Need-returns
 returns c =
     let st = c .before .before in
     rw (create-ids (st .args .t1) (st .pre .0) (st .args .a2) (st .args .a3) (c .before .if1 .taken)) (c .replies .ensures)
 
--- src/calls.rt:82:28
 lowest-free-requires : tie.Need-lowest-free-requires
 lowest-free-requires c κs = search needs
 
--- src/calls.rt:82:23
 enum-known-s : tie.Need-enum-known-s
 enum-known-s c = search needs
 
--- src/calls.rt:83:20
 enum-told : tie.Need-enum-told
 enum-told c = search needs
 
--- src/calls.rt:83:13
 replies-requires-2 : tie.Need-replies-requires-2
 replies-requires-2 c κs = search needs
 
--- src/calls.rt:83:13
 returns-2 : tie.Need-returns-2
 returns-2 c =
     let st = c .before .before .before .before .before .before .before in
     rw (create-slots (st .args .t1) (st .pre .0) (st .args .a2) (st .args .a3) (sym (c .before .before .before .lowest-free .ensures) ∙ c .before .enum-told .given .1)) (c .replies2 .ensures)
 
--- src/calls.rt:86:20
 cast-slot : tie.Need-cast-slot
 cast-slot c = omega (arith, slot c)
 
--- src/calls.rt:88:9
 push-requires : tie.Need-push-requires
 push-requires c κs = let st = c .before .before .before .before .before .before .before .before in omega (arith, room-beside (st .args .t1) (st .pre .0) (st .pre .1))
 
--- src/calls.rt:89:23
 add-self : tie.Need-add-self
 add-self c = search needs
 
--- src/calls.rt:90:9
 mul-self : tie.Need-mul-self
 mul-self c = omega (arith, slot (c .before .before))
 
--- src/calls.rt:90:9
 element-write-self : tie.Need-element-write-self
 element-write-self c = slot (c .before .before)
 
--- src/calls.rt:91:27
 cast-self : tie.Need-cast-self
 cast-self c = search needs
 
--- src/calls.rt:91:27
 add-self-2 : tie.Need-add-self-2
 add-self-2 c = search needs
 
--- src/calls.rt:91:9
 element-write-self-2 : tie.Need-element-write-self-2
 element-write-self-2 c = slot (c .before .before)
 
--- src/calls.rt:92:9
 mul-self-2 : tie.Need-mul-self-2
 mul-self-2 c = omega (arith, slot (c .before .before))
 
--- src/calls.rt:92:9
 element-write-self-3 : tie.Need-element-write-self-3
 element-write-self-3 c = slot (c .before .before)
 
--- src/calls.rt:93:9
 mul-self-3 : tie.Need-mul-self-3
 mul-self-3 c = omega (arith, slot (c .before .before))
 
--- src/calls.rt:93:9
 element-write-self-4 : tie.Need-element-write-self-4
 element-write-self-4 c = slot (c .before .before)
 
--- src/calls.rt:94:21
 add-self-3 : tie.Need-add-self-3
 add-self-3 c = search needs
 
--- src/calls.rt:95:27
 cast-says : tie.Need-cast-says
 cast-says c = search needs
 
--- src/calls.rt:95:13
 says-requires : tie.Need-says-requires
 says-requires c κs = search needs
 
--- src/calls.rt:96:13
 so-far-requires : tie.Need-so-far-requires
 so-far-requires c κs = search needs
 
--- src/calls.rt:97:9
 carries-on-requires : tie.Need-carries-on-requires
 carries-on-requires c κs =
     let st = c .before .before .before .before .before .before .before .before .before .before .before in
     let k = c .before .before .before .before in
     rw (c .before .before .push .ensures) (create-shape (st .args .t1) (st .pre .0) (st .args .a2) (st .args .a3) (st .pre .1) (k .before .s .given .0 .0) (found k), st .pre .1)
 
--- src/calls.rt:74:5
 returns-3 : tie.Need-returns-3
 returns-3 c =
     let st = c .before .before .before .before .before .before .before .before .before .before .before .before in

@@ -1,3 +1,4 @@
+-- `Machine::device_done` meets its contract.
 use mathlib.Core.Path.{_≡_, refl, sym, ap, _∙_}
 use native.Mathlib.Omega.{arith}
 use Prim.Native.Nat.{ℕ, _+_, _-_, _<_, _≤_}
@@ -5,29 +6,19 @@ use Rattle.desk.proofs.Serving.{device-comes}
 use borrow.Author.Needs.{needs}
 use Rattle.desk.proofs.Machine.device_done.Statement.{statement}
 use Rattle.desk.proofs.Machine.device_done.Tie as tie
-use Rattle.desk.proofs.Machine.device_done.Reads as reads
-use Rattle.desk.proofs.Machine.device_done.Lts as lts
-use Rattle.desk.proofs.Machine.resume.Reads as resume-reads
-use Rattle.desk.proofs.Machine.wake.Reads as wake-reads
-use Rattle.desk.proofs.so_far.Reads as so-far-reads
 
--- src/interrupts.rt:68:27
 add-wake : tie.Need-add-wake
 add-wake c = search needs
 
--- src/interrupts.rt:68:13
 wake-requires : tie.Need-wake-requires
 wake-requires c κs = search needs
 
--- src/interrupts.rt:70:13
 so-far-requires : tie.Need-so-far-requires
 so-far-requires c κs = search needs
 
--- src/interrupts.rt:71:9
 resume-requires : tie.Need-resume-requires
 resume-requires c κs = search needs
 
--- src/interrupts.rt:64:5
 returns : tie.Need-returns
 returns c = device-comes (c .before .before .before .before .args .d) (c .before .before .before .before .pre .1) (c .before .before .before .before .args .self) (c .before .before .before .wake .result) (c .resume .result) (c .before .before .before .wake .ensures) (rw (c .before .so-far .ensures) at (c .resume .ensures))
 

@@ -1,3 +1,4 @@
+-- `Machine::do_io` meets its contract.
 use mathlib.Core.Path.{_≡_, refl, sym, ap, _∙_}
 use native.Mathlib.Omega.{arith}
 use Prim.Native.Nat.{ℕ, _+_, _-_, _<_, _≤_}
@@ -5,37 +6,25 @@ use Rattle.desk.proofs.Serving.{io-traps, io-waits}
 use borrow.Author.Needs.{needs}
 use Rattle.desk.proofs.Machine.do_io.Statement.{statement}
 use Rattle.desk.proofs.Machine.do_io.Tie as tie
-use Rattle.desk.proofs.Machine.do_io.Reads as reads
-use Rattle.desk.proofs.Machine.do_io.Lts as lts
-use Rattle.desk.proofs.Machine.block.Reads as block-reads
-use Rattle.desk.proofs.Machine.pass_up_or_die.Reads as pass-up-or-die-reads
-use Rattle.desk.proofs.so_far.Reads as so-far-reads
 
--- src/calls.rt:169:13
 pass-up-or-die-requires : tie.Need-pass-up-or-die-requires
 pass-up-or-die-requires c κs = search needs
 
--- src/calls.rt:169:13
 returns : tie.Need-returns
 returns c = io-traps (c .before .before .args .self) (c .before .before .pre .0) (c .before .before .args .a1) (c .pass-up-or-die .result) (c .before .if1 .taken) (c .pass-up-or-die .ensures)
 
--- src/calls.rt:171:17
 cast-d : tie.Need-cast-d
 cast-d c = search needs
 
--- src/calls.rt:172:13
 so-far-requires : tie.Need-so-far-requires
 so-far-requires c κs = search needs
 
--- src/calls.rt:173:20
 add-block : tie.Need-add-block
 add-block c = search needs
 
--- src/calls.rt:173:9
 block-requires : tie.Need-block-requires
 block-requires c κs = search needs
 
--- src/calls.rt:164:5
 returns-2 : tie.Need-returns-2
 returns-2 c = io-waits (c .before .before .before .args .self) (c .before .before .before .pre .0) (c .before .before .before .args .a1) (c .block .result) (omega (arith, c .before .before .if1 .left)) (rw (c .before .so-far .ensures) at (c .block .ensures))
 

@@ -1,5 +1,5 @@
 -- `Machine::event`: the rows of the table in their order, then what an accepted event does. Assumes nothing.
-use mathlib.Core.Path.{_≡_, sym, ap, _∙_, subst}
+use mathlib.Core.Path.{_≡_, sym, ap, _∙_}
 use mathlib.Core.Bool.{false, _&&_}
 use native.Mathlib.Omega.{arith}
 use Prim.Native.Nat.{ℕ, _+_, _<_, _≤_}
@@ -8,7 +8,8 @@ use Rattle.rules.specs.Numbers.{base-slots, gap-limit, time-limit, over, clock-
 use Rattle.rules.specs.Machine.{gap, charge}
 use Rattle.rules.specs.Rules.{clock, bad-line, bad-code, needs-runner}
 use Rattle.desk.specs.View.{view}
-use Rattle.desk.proofs.Eventful.{gap-is, none-odd, row-over, row-odd, row-back, row-full, row-nobody, row-none, says-no, says-yes}
+use Rattle.desk.proofs.Billing.{gap-is}
+use Rattle.desk.proofs.Eventful.{none-odd, row-over, row-odd, row-back, row-full, row-nobody, row-none, says-no, says-yes}
 use borrow.Author.Needs.{needs}
 use Rattle.desk.proofs.Machine.event.Statement.{statement}
 use Rattle.desk.proofs.Machine.event.Tie as tie
@@ -68,7 +69,7 @@ returns-3 c =
     let at = c .before .before in
     let st = start at in
     says-no (st .args .self) (st .pre) (st .args .e) (c .refused3 .result) clock-back (search needs)
-    (row-back (st .args .self) (st .args .e) (on at) (known at .0) (known at .1) (subst (λ n. gap-limit ≤ n) (gap-at at) (c .before .if3 .taken))) (c .refused3 .ensures .0) (c .refused3 .ensures .1)
+    (row-back (st .args .self) (st .args .e) (on at) (known at .0) (known at .1) (omega (arith, gap-at at))) (c .refused3 .ensures .0) (c .refused3 .ensures .1)
 
 cast-room : tie.Need-cast-room
 cast-room c = search needs
@@ -80,14 +81,14 @@ refused-requires-4 : tie.Need-refused-requires-4
 refused-requires-4 c κs = search needs
 
 forth : (c : tie.Else3) → the-gap (c .before) < gap-limit
-forth c = subst (λ n. n < gap-limit) (gap-at (c .before)) (c .if3 .left)
+forth c = omega (arith, gap-at (c .before))
 
 returns-4 : tie.Need-returns-4
 returns-4 c =
     let at = c .before .before .before .before in
     let st = start at in
     says-no (st .args .self) (st .pre) (st .args .e) (c .refused4 .result) time-full (search needs)
-    (row-full (st .args .self) (st .args .e) (on at) (known at .0) (known at .1) (forth (c .before .before .before)) (omega (arith, gap-at at, c .before .if4 .taken))) (c .refused4 .ensures .0) (c .refused4 .ensures .1)
+    (row-full (st .args .self) (st .args .e) (on at) (known at .0) (known at .1) (forth (c .before .before .before)) (omega (arith, gap-at at))) (c .refused4 .ensures .0) (c .refused4 .ensures .1)
 
 unmanned-requires : tie.Need-unmanned-requires
 unmanned-requires c κs = search needs
@@ -96,7 +97,7 @@ refused-requires-5 : tie.Need-refused-requires-5
 refused-requires-5 c κs = search needs
 
 room : (c : tie.Else4) → start (c .before .before .before) .args .self .total + the-gap (c .before .before .before) ≤ time-limit
-room c = omega (arith, gap-at (c .before .before .before), c .if4 .left)
+room c = omega (arith, gap-at (c .before .before .before))
 
 returns-5 : tie.Need-returns-5
 returns-5 c =

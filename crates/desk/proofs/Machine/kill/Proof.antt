@@ -1,3 +1,4 @@
+-- `Machine::kill` meets its contract.
 use mathlib.Core.Path.{sym, subst}
 use Prim.Native.Nat.{_+_}
 use native.Mathlib.Omega.{arith}
@@ -7,69 +8,55 @@ use Rattle.desk.proofs.Doomed.{kill-step, toll-fits}
 use Rattle.desk.proofs.Machine.kill.Statement.{statement}
 use Rattle.desk.proofs.Machine.kill.Tie as tie
 
--- src/kills.rt:67:22
 family-requires : tie.Need-family-requires
 family-requires c κs = search needs
 
--- src/kills.rt:68:13
 mask-requires : tie.Need-mask-requires
 mask-requires c κs = search needs
 
--- src/kills.rt:69:13
 toll-requires : tie.Need-toll-requires
 toll-requires c κs =
     let st = c .before .before .before .before .before .before .before .before .before in
     let f = c .before .before .before .before .before .family in
     omega (arith, toll-fits (st .args .t1) (st .pre .0) (st .args .id) (f .result) (f .ensures))
 
--- src/kills.rt:70:22
 add-self : tie.Need-add-self
 add-self c =
     let st = c .before .before .before .before .before .before .before .before .before .before in
     let f = c .before .before .before .before .before .before .family in
     omega (arith, c .toll .ensures, toll-fits (st .args .t1) (st .pre .0) (st .args .id) (f .result) (f .ensures))
 
--- src/kills.rt:72:24
 spared-requires : tie.Need-spared-requires
 spared-requires c κs = search needs
 
--- src/kills.rt:73:9
 strike-requires : tie.Need-strike-requires
 strike-requires c κs = search needs
 
--- src/kills.rt:74:9
 strike-bytes-requires : tie.Need-strike-bytes-requires
 strike-bytes-requires c κs = search needs
 
--- src/kills.rt:75:9
 strike-requires-2 : tie.Need-strike-requires-2
 strike-requires-2 c κs = search needs
 
--- src/kills.rt:76:9
 strike-requires-3 : tie.Need-strike-requires-3
 strike-requires-3 c κs = search needs
 
--- src/kills.rt:77:9
 strike-times-requires : tie.Need-strike-times-requires
 strike-times-requires c κs = c .before .before .before .before .before .before .before .before .before .before .before .before .before .before .before .before .before .before .before .before .before .before .before .before .before .before .pre .0 .times-long
 
--- src/kills.rt:78:9
 strike-bytes-requires-2 : tie.Need-strike-bytes-requires-2
 strike-bytes-requires-2 c κs = c .before .before .before .before .before .before .before .before .before .before .before .before .before .before .before .before .before .before .before .before .before .before .before .before .before .before .before .before .before .pre .0 .lines-long
 
--- src/kills.rt:80:13
 drop-marked-requires : tie.Need-drop-marked-requires
 drop-marked-requires c κs =
     let l = c .before .before .before .before .before .before .before .before .before .before .before .before .before .before .before .before .before .before .before .before .before .before .before .before .before .before .before .before .before .before .before .before .pre .0 .ready-line in
     (l .room, l .long, l .slots)
 
--- src/kills.rt:83:13
 drop-marked-requires-2 : tie.Need-drop-marked-requires-2
 drop-marked-requires-2 c κs =
     let l = c .before .before .before .before .before .before .before .before .before .before .before .before .before .before .before .before .before .before .before .before .before .before .before .before .before .before .before .before .before .before .before .before .before .before .before .pre .0 .waits-line in
     (l .room, l .long, l .slots)
 
--- src/kills.rt:63:5
 returns : tie.Need-returns
 returns c =
     let st = c .before .before .before .before .before .before .before .before .before .before .before .before .before .before .before .before .before .before .before .before .before .before .before .before .before .before .before .before .before .before .before .before .before .before .before .before in

@@ -1,3 +1,4 @@
+-- `Machine::nobody_ready` meets its contract.
 use mathlib.Core.Path.{_≡_, refl, sym, ap, _∙_}
 use native.Mathlib.Omega.{arith}
 use Prim.Native.Nat.{ℕ, _+_, _-_, _<_, _≤_}
@@ -5,45 +6,33 @@ use Rattle.desk.proofs.Choosing.{halt-comes, wait-comes, panic-comes}
 use borrow.Author.Needs.{needs}
 use Rattle.desk.proofs.Machine.nobody_ready.Statement.{statement}
 use Rattle.desk.proofs.Machine.nobody_ready.Tie as tie
-use Rattle.desk.proofs.Machine.nobody_ready.Reads as reads
-use Rattle.desk.proofs.Machine.nobody_ready.Lts as lts
-use Rattle.desk.proofs.does.Reads as does-reads
-use Rattle.lines.proofs.find_above.Reads as find-above-reads
 
--- src/schedules.rt:27:17
 does-requires : tie.Need-does-requires
 does-requires c κs = search needs
 
--- src/schedules.rt:28:13
 returns : tie.Need-returns
 returns c = rw (c .does .ensures) (halt-comes (c .before .before .args .x) (c .before .before .args .t1) (c .before .before .pre .0) (c .before .before .pre .1) (c .before .before .pre .2) (c .before .if1 .taken))
 
--- src/schedules.rt:33:28
 find-above-requires : tie.Need-find-above-requires
 find-above-requires c κs = search needs
 
 enum-told : tie.Need-enum-told
 enum-told c = search needs
 
--- src/schedules.rt:34:13
 enum-told-2 : tie.Need-enum-told-2
 enum-told-2 c = search needs
 
--- src/schedules.rt:35:17
 does-requires-2 : tie.Need-does-requires-2
 does-requires-2 c κs = search needs
 
--- src/schedules.rt:36:13
 returns-2 : tie.Need-returns-2
 returns-2 c =
     let some : 0 < c .before .before .before .before .before .before .before .before .args .t1 .nwaits = omega (arith, c .before .before .before .before .before .before .before .if1 .left) in
     rw (c .does2 .ensures) (panic-comes (c .before .before .before .before .before .before .before .before .args .x) (c .before .before .before .before .before .before .before .before .args .t1) (c .before .before .before .before .before .before .before .before .pre .0) some (sym (c .before .before .before .find-above .ensures) ∙ c .before .enum-told2 .given .1))
 
--- src/schedules.rt:41:13
 does-requires-3 : tie.Need-does-requires-3
 does-requires-3 c κs = search needs
 
--- src/schedules.rt:20:5
 returns-3 : tie.Need-returns-3
 returns-3 c =
     let some : 0 < c .before .before .before .before .before .before .before .before .args .t1 .nwaits = omega (arith, c .before .before .before .before .before .before .before .if1 .left) in

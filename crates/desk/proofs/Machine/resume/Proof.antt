@@ -1,3 +1,4 @@
+-- `Machine::resume` meets its contract.
 use mathlib.Core.Path.{_≡_, refl, sym, ap, _∙_}
 use native.Mathlib.Omega.{arith}
 use Prim.Native.Nat.{ℕ, _+_, _-_, _<_, _≤_}
@@ -5,24 +6,16 @@ use Rattle.desk.proofs.Choosing.{resumed, idle-resumed}
 use borrow.Author.Needs.{needs}
 use Rattle.desk.proofs.Machine.resume.Statement.{statement}
 use Rattle.desk.proofs.Machine.resume.Tie as tie
-use Rattle.desk.proofs.Machine.resume.Reads as reads
-use Rattle.desk.proofs.Machine.resume.Lts as lts
-use Rattle.desk.proofs.Machine.carries_on.Reads as carries-on-reads
-use Rattle.desk.proofs.Machine.schedule.Reads as schedule-reads
 
--- src/schedules.rt:88:13
 carries-on-requires : tie.Need-carries-on-requires
 carries-on-requires c κs = search needs
 
--- src/schedules.rt:88:13
 returns : tie.Need-returns
 returns c = resumed (c .before .before .args .x) (c .before .before .args .self) (c .before .before .pre) (c .carries-on .result) (c .before .if1 .taken) (c .carries-on .ensures)
 
--- src/schedules.rt:90:9
 schedule-requires : tie.Need-schedule-requires
 schedule-requires c κs = search needs
 
--- src/schedules.rt:82:5
 returns-2 : tie.Need-returns-2
 returns-2 c = idle-resumed (c .before .before .args .x) (c .before .before .args .self) (c .before .before .pre) (c .schedule .result) (omega (arith, c .before .if1 .left)) (c .schedule .ensures)
 

@@ -1,3 +1,4 @@
+-- `Machine::schedule` meets its contract.
 use mathlib.Core.Path.{_≡_, refl, sym, ap, _∙_}
 use native.Mathlib.Omega.{arith}
 use Prim.Native.Nat.{ℕ, _+_, _-_, _<_, _≤_}
@@ -5,41 +6,28 @@ use Rattle.desk.proofs.Choosing.{stuck, run-comes}
 use borrow.Author.Needs.{needs}
 use Rattle.desk.proofs.Machine.schedule.Statement.{statement}
 use Rattle.desk.proofs.Machine.schedule.Tie as tie
-use Rattle.desk.proofs.Machine.schedule.Reads as reads
-use Rattle.desk.proofs.Machine.schedule.Lts as lts
-use Rattle.desk.proofs.Machine.nobody_ready.Reads as nobody-ready-reads
-use Rattle.desk.proofs.does.Reads as does-reads
-use Rattle.lines.proofs.remove_at.Reads as remove-at-reads
 
--- src/schedules.rt:55:13
 nobody-ready-requires : tie.Need-nobody-ready-requires
 nobody-ready-requires c κs = search needs
 
--- src/schedules.rt:55:13
 returns : tie.Need-returns
 returns c = stuck (c .before .before .args .x) (c .before .before .args .t1) (c .nobody-ready .result) (c .before .if1 .taken) (c .nobody-ready .ensures)
 
--- src/schedules.rt:57:20
 element-copy-out-slot : tie.Need-element-copy-out-slot
 element-copy-out-slot c = search needs
 
--- src/schedules.rt:58:9
 remove-at-requires : tie.Need-remove-at-requires
 remove-at-requires c κs = search needs
 
--- src/schedules.rt:59:23
 sub-self : tie.Need-sub-self
 sub-self c = search needs
 
--- src/schedules.rt:60:24
 cast-self : tie.Need-cast-self
 cast-self c = search needs
 
--- src/schedules.rt:61:13
 does-requires : tie.Need-does-requires
 does-requires c κs = search needs
 
--- src/schedules.rt:49:5
 returns-2 : tie.Need-returns-2
 returns-2 c =
     let some : 0 < c .before .before .before .before .before .args .t1 .nready = omega (arith, c .before .before .before .before .if1 .left) in

@@ -1,37 +1,31 @@
+-- `Machine::terminate` meets its contract.
 use mathlib.Core.Path.{sym, _∙_}
 use borrow.Author.Needs.{needs}
 use Rattle.desk.proofs.Endings.{named-pos, ends-nobody, ends-other, ends-caller}
 use Rattle.desk.proofs.Machine.terminate.Statement.{statement}
 use Rattle.desk.proofs.Machine.terminate.Tie as tie
 
--- src/calls.rt:106:19
 mul-own : tie.Need-mul-own
 mul-own c = search needs
 
--- src/calls.rt:106:19
 element-copy-out-own : tie.Need-element-copy-out-own
 element-copy-out-own c = search needs
 
--- src/calls.rt:107:13
 named-requires : tie.Need-named-requires
 named-requires c κs = search needs
 
--- src/calls.rt:108:28
 find-id-requires : tie.Need-find-id-requires
 find-id-requires c κs = search needs
 
 enum-told : tie.Need-enum-told
 enum-told c = search needs
 
--- src/calls.rt:109:20
 enum-told-2 : tie.Need-enum-told-2
 enum-told-2 c = search needs
 
--- src/calls.rt:109:13
 replies-requires : tie.Need-replies-requires
 replies-requires c κs = search needs
 
--- src/calls.rt:109:13
 returns : tie.Need-returns
 returns c =
     let st = c .before .before .before .before .before .before .before .before in
@@ -39,22 +33,18 @@ returns c =
     let r = c .replies in
     ends-nobody (st .args .t1) (st .pre .0) (st .pre .1) (st .args .a1) (n .result) (n .ensures) (sym (c .before .before .before .find-id .ensures) ∙ c .before .enum-told2 .given .1) (r .result) (r .ensures)
 
--- src/calls.rt:111:13
 kill-requires : tie.Need-kill-requires
 kill-requires c κs =
     let st = c .before .before .before .before .before .before .before in
     let n = c .before .before .before .before .before .named in
     (st .pre .0, st .pre .1, named-pos (st .args .t1) (st .pre .0) (st .pre .1) (st .args .a1) (n .result) (n .ensures))
 
--- src/calls.rt:114:17
 so-far-requires : tie.Need-so-far-requires
 so-far-requires c κs = search needs
 
--- src/calls.rt:115:13
 carries-on-requires : tie.Need-carries-on-requires
 carries-on-requires c κs = search needs
 
--- src/calls.rt:115:13
 returns-2 : tie.Need-returns-2
 returns-2 c =
     let st = c .before .before .before .before .before .before .before .before .before .before .before .before .before in
@@ -64,15 +54,12 @@ returns-2 c =
     let r = c .carries-on in
     ends-other (st .args .t1) (st .pre .0) (st .pre .1) (st .args .a1) (n .result) (n .ensures) _ (sym (c .before .before .before .before .before .before .before .before .find-id .ensures) ∙ c .before .before .before .before .before .before .enum-told .given .1) (k .result) (k .ensures) (x .result) (r .result) (c .before .before .if1 .taken) (x .ensures) (r .ensures)
 
--- src/calls.rt:117:13
 so-far-requires-2 : tie.Need-so-far-requires-2
 so-far-requires-2 c κs = search needs
 
--- src/calls.rt:118:9
 schedule-requires : tie.Need-schedule-requires
 schedule-requires c κs = search needs
 
--- src/calls.rt:101:5
 returns-3 : tie.Need-returns-3
 returns-3 c =
     let st = c .before .before .before .before .before .before .before .before .before .before .before .before .before in

@@ -1,3 +1,4 @@
+-- `Machine::tick` meets its contract.
 use mathlib.Core.Path.{_≡_, refl, sym, ap, _∙_}
 use native.Mathlib.Omega.{arith}
 use Prim.Native.Nat.{ℕ, _+_, _-_, _<_, _≤_}
@@ -12,26 +13,16 @@ use Rattle.desk.specs.View.{waiters, Shape}
 use borrow.Author.Needs.{needs}
 use Rattle.desk.proofs.Machine.tick.Statement.{statement}
 use Rattle.desk.proofs.Machine.tick.Tie as tie
-use Rattle.desk.proofs.Machine.tick.Reads as reads
-use Rattle.desk.proofs.Machine.tick.Lts as lts
-use Rattle.lines.proofs.append_marked.Reads as append-marked-reads
-use Rattle.lines.proofs.drop_marked.Reads as drop-marked-reads
-use Rattle.lines.proofs.marks_at.Reads as marks-at-reads
-use Rattle.lines.proofs.mask.Reads as mask-reads
-use Rattle.lines.proofs.strike_bytes.Reads as strike-bytes-reads
 
 clock-marks : (m : Machine) → Shape m → (s : ℕ) → s < base-slots → marked (marksAt (m .lines) last-code) s ≡ inLine (m .lines) last-code s
 clock-marks m g s b = getD-marksAt (m .lines) last-code s (omega (arith, g .lines-long))
 
--- src/lines_of.rt:87:18
 marks-at-requires : tie.Need-marks-at-requires
 marks-at-requires c κs = search needs
 
--- src/lines_of.rt:88:13
 mask-requires : tie.Need-mask-requires
 mask-requires c κs = search needs
 
--- src/lines_of.rt:90:9
 append-marked-requires : tie.Need-append-marked-requires
 append-marked-requires c κs =
     let m = c .before .before .before .before .before .before .before .before .before .args .t1 in
@@ -39,26 +30,21 @@ append-marked-requires c κs =
     let room = tick-room m g (marksAt (m .lines) last-code) (clock-marks m g) in
     (g .waits-line .room, g .ready-line .long, g .waits-line .long, g .waits-line .slots, rw (c .before .before .before .before .before .before .marks-at .ensures) room)
 
--- src/lines_of.rt:91:13
 drop-marked-requires : tie.Need-drop-marked-requires
 drop-marked-requires c κs = search needs
 
--- src/lines_of.rt:93:28
 sub-self : tie.Need-sub-self
 sub-self c =
     let m = c .before .before .before .before .before .before .before .before .before .before .before .before .before .args .t1 in
     let g = c .before .before .before .before .before .before .before .before .before .before .before .before .before .pre in
     omega (arith, c .drop-marked .ensures .0, keep-le (alive (c .before .before .before .before .before .before .before .before .before .before .marks-at .result)) (waiters m), line-size (g .waits-line))
 
--- src/lines_of.rt:93:23
 add-self : tie.Need-add-self
 add-self c = search needs
 
--- src/lines_of.rt:94:9
 strike-bytes-requires : tie.Need-strike-bytes-requires
 strike-bytes-requires c κs = search needs
 
--- src/lines_of.rt:81:5
 returns : tie.Need-returns
 returns c =
     let m = c .before .before .before .before .before .before .before .before .before .before .before .before .before .before .before .before .args .t1 in

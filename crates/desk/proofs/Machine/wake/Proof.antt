@@ -1,3 +1,4 @@
+-- `Machine::wake` meets its contract.
 use mathlib.Core.Path.{_≡_, refl, sym, ap, _∙_}
 use native.Mathlib.Omega.{arith}
 use Prim.Native.Nat.{ℕ, _+_, _-_, _<_, _≤_}
@@ -5,70 +6,51 @@ use Rattle.desk.proofs.Waking.{wake-none, wake-some, found-place, found
 use borrow.Author.Needs.{needs}
 use Rattle.desk.proofs.Machine.wake.Statement.{statement}
 use Rattle.desk.proofs.Machine.wake.Tie as tie
-use Rattle.desk.proofs.Machine.wake.Reads as reads
-use Rattle.desk.proofs.Machine.wake.Lts as lts
-use Rattle.lines.proofs.find.Reads as find-reads
-use Rattle.lines.proofs.power.Reads as power-reads
-use Rattle.lines.proofs.push.Reads as push-reads
-use Rattle.lines.proofs.remove_at.Reads as remove-at-reads
 
--- src/lines_of.rt:59:28
 find-requires : tie.Need-find-requires
 find-requires c κs = search needs
 
--- src/lines_of.rt:59:23
 enum-known-i : tie.Need-enum-known-i
 enum-known-i c = search needs
 
--- src/lines_of.rt:61:26
 enum-told : tie.Need-enum-told
 enum-told c = search needs
 
--- src/lines_of.rt:60:13
 returns : tie.Need-returns
 returns c = wake-none (c .before .before .before .before .before .before .args .t1) (c .before .before .before .before .before .before .pre .0) (c .before .before .before .before .before .before .args .code) (c .before .before .before .before .before .before .pre .1) (c .before .before .before .before .before .before .pre .2) (sym (c .before .before .find .ensures) ∙ c .enum-told .given .1)
 
--- src/lines_of.rt:65:20
 element-copy-out-slot : tie.Need-element-copy-out-slot
 element-copy-out-slot c =
     let h = found-place (c .before .before .before .before .before .before .before .args .t1) (c .before .before .before .before .before .before .before .pre .0) (c .before .before .before .before .before .before .before .args .code) (c .before .before .before .before .before .before .before .pre .1) (c .before .before .before .before .before .before .before .pre .2) _ (sym (c .before .before .before .find .ensures) ∙ c .before .i .given .1) in
     omega (arith, c .before .before .before .before .before .before .before .pre .0 .waits-line .room)
 
--- src/lines_of.rt:66:17
 cast-s : tie.Need-cast-s
 cast-s c = search needs
 
--- src/lines_of.rt:67:9
 remove-at-requires : tie.Need-remove-at-requires
 remove-at-requires c κs =
     let h = found-place (c .before .before .before .before .before .before .before .before .before .args .t1) (c .before .before .before .before .before .before .before .before .before .pre .0) (c .before .before .before .before .before .before .before .before .before .args .code) (c .before .before .before .before .before .before .before .before .before .pre .1) (c .before .before .before .before .before .before .before .before .before .pre .2) _ (sym (c .before .before .before .before .before .find .ensures) ∙ c .before .before .before .i .given .1) in
     (h, c .before .before .before .before .before .before .before .before .before .pre .0 .waits-line .room, c .before .before .before .before .before .before .before .before .before .pre .0 .waits-line .long)
 
--- src/lines_of.rt:68:23
 sub-self : tie.Need-sub-self
 sub-self c =
     let h = found-place (c .before .before .before .before .before .before .before .before .before .before .args .t1) (c .before .before .before .before .before .before .before .before .before .before .pre .0) (c .before .before .before .before .before .before .before .before .before .before .args .code) (c .before .before .before .before .before .before .before .before .before .before .pre .1) (c .before .before .before .before .before .before .before .before .before .before .pre .2) _ (sym (c .before .before .before .before .before .before .find .ensures) ∙ c .before .before .before .before .i .given .1) in
     omega arith
 
--- src/lines_of.rt:69:9
 element-write-self : tie.Need-element-write-self
 element-write-self c = found-slot (c .before .before .before .before .before .before .before .before .before .before .args .t1) (c .before .before .before .before .before .before .before .before .before .before .pre .0) (c .before .before .before .before .before .before .before .before .before .before .args .code) (c .before .before .before .before .before .before .before .before .before .before .pre .1) (c .before .before .before .before .before .before .before .before .before .before .pre .2) _ (sym (c .before .before .before .before .before .before .find .ensures) ∙ c .before .before .before .before .i .given .1)
 
--- src/lines_of.rt:71:9
 push-requires : tie.Need-push-requires
 push-requires c κs = wake-room (c .before .before .before .before .before .before .before .before .before .before .before .args .t1) (c .before .before .before .before .before .before .before .before .before .before .before .pre .0) (c .before .before .before .before .before .before .before .before .before .before .before .args .code) (c .before .before .before .before .before .before .before .before .before .before .before .pre .1) (c .before .before .before .before .before .before .before .before .before .before .before .pre .2) _ (sym (c .before .before .before .before .before .before .before .find .ensures) ∙ c .before .before .before .before .before .i .given .1)
 
--- src/lines_of.rt:72:23
 add-self : tie.Need-add-self
 add-self c =
     let h = wake-room (c .before .before .before .before .before .before .before .before .before .before .before .before .args .t1) (c .before .before .before .before .before .before .before .before .before .before .before .before .pre .0) (c .before .before .before .before .before .before .before .before .before .before .before .before .args .code) (c .before .before .before .before .before .before .before .before .before .before .before .before .pre .1) (c .before .before .before .before .before .before .before .before .before .before .before .before .pre .2) _ (sym (c .before .before .before .before .before .before .before .before .find .ensures) ∙ c .before .before .before .before .before .before .i .given .1) in
     omega arith
 
--- src/lines_of.rt:73:13
 power-requires : tie.Need-power-requires
 power-requires c κs = found-slot (c .before .before .before .before .before .before .before .before .before .before .before .before .args .t1) (c .before .before .before .before .before .before .before .before .before .before .before .before .pre .0) (c .before .before .before .before .before .before .before .before .before .before .before .before .args .code) (c .before .before .before .before .before .before .before .before .before .before .before .before .pre .1) (c .before .before .before .before .before .before .before .before .before .before .before .before .pre .2) _ (sym (c .before .before .before .before .before .before .before .before .find .ensures) ∙ c .before .before .before .before .before .before .i .given .1)
 
--- src/lines_of.rt:54:5
 returns-2 : tie.Need-returns-2
 returns-2 c =
     rw (c .power .ensures, c .before .push .ensures, c .before .before .before .remove-at .ensures)

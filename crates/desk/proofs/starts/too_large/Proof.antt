@@ -4,7 +4,7 @@ use mathlib.Core.Path.{_≡_, sym, _∙_}
 use native.Mathlib.Omega.{arith}
 use Prim.Native.Nat.{_-_, _≤_}
 use lib.Dec.{ltb}
-use lib.ListN.{length, drop}
+use lib.ListN.{length, drop, getD}
 use Rattle.rules.specs.Words.{any}
 use Rattle.rules.specs.Numbers.{top, base-sems}
 use Rattle.lines.proofs.Bridge.{any-hit, any-miss, any-end}
@@ -34,7 +34,7 @@ array-read-if1 c = search needs
 returns : tie.Need-returns Inv-loop μ-loop
 returns c =
     let d = c .before .before in
-    sym (d .loop .inv .0 ∙ any-hit (ltb top) (d .before .args .t1) (d .loop .i) (omega (arith, long (d .before), c .before .loop-test .taken)) (lt-ltb top _ (c .if1 .taken)))
+    sym (d .loop .inv .0 ∙ any-hit (ltb top) (d .before .args .t1) (d .loop .i) (omega (arith, long (d .before), c .before .loop-test .taken)) (lt-ltb top (getD (d .before .args .t1) (d .loop .i) 0) (search needs)))
 
 add-i : tie.Need-add-i Inv-loop μ-loop
 add-i c = search needs
@@ -45,7 +45,7 @@ loop-less c = search needs
 loop-again : tie.Need-loop-again Inv-loop μ-loop
 loop-again c =
     let d = c .before .before in
-    (d .loop .inv .0 ∙ any-miss (ltb top) (d .before .args .t1) (d .loop .i) (omega (arith, long (d .before), c .before .loop-test .taken)) (le-ltb top _ (c .if1 .left)), omega arith)
+    (d .loop .inv .0 ∙ any-miss (ltb top) (d .before .args .t1) (d .loop .i) (omega (arith, long (d .before), c .before .loop-test .taken)) (le-ltb top (getD (d .before .args .t1) (d .loop .i) 0) (search needs)), omega arith)
 
 returns-2 : tie.Need-returns-2 Inv-loop μ-loop
 returns-2 c =

@@ -1,0 +1,2 @@
+-- Demand 3, of the desk's code.
+pub mod Demands

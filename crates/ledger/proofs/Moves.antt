@@ -1,0 +1,400 @@
+-- Why an accepted event moves just whom `move` says, and the first in the ready line then runs where nobody does.
+use mathlib.Core.Path.{_≡_, refl, sym, _∙_, ap, ap₂, subst}
+use mathlib.Core.Bool.{Bool, true, false, not, _&&_, _||_, true≢false}
+use mathlib.Core.List.{List, [], _∷_, _++_, map, append-nil}
+use Prim.Native.Nat.{ℕ, zero, suc, _+_, _-_, _≤_}
+use native.Mathlib.Nat.{add-zero, zero-add, add-suc, suc-add}
+use native.Mathlib.Omega.{arith}
+use lib.Dec.{eqb, leb, ltb}
+use lib.IntN.{ℤ, pos, negsuc}
+use lib.ListN.{length, getD}
+use borrow.Author.Tests.{eqb-true, eq-eqb, lt-ltb, ltb-true, ltb-false, lt-leb, le-leb}
+use Rattle.rules.specs.declared.Mode.{Mode}
+use Rattle.rules.specs.declared.Mode.the-variants.{User, Kernel}
+use Rattle.rules.specs.declared.Event.{Event}
+use Rattle.rules.specs.declared.Event.the-variants.{Call, Interrupt, Exception}
+use Rattle.rules.specs.declared.Line.{Line}
+use Rattle.rules.specs.declared.Line.the-variants.{Semaphore, Device, PseudoClock}
+use Rattle.rules.specs.declared.Cause.{Cause}
+use Rattle.rules.specs.declared.Cause.the-variants.{Tlb, General}
+use Rattle.rules.specs.declared.Action.{Action}
+use Rattle.rules.specs.declared.Action.the-variants.{PassUp}
+use Rattle.rules.specs.declared.Answer.{Answer}
+use Rattle.rules.specs.Words.{if_then_else_, first, those, any, front, rest, without, count, many}
+use Rattle.rules.specs.Numbers.{top, sub-devices}
+use Rattle.rules.specs.Cases.{if-cases, first-cases, Single, single-cases, getD-past}
+use Rattle.rules.specs.Machine.{Process, Waiter, Machine, with-sem, living, nucleus-waits, at, line, back, block, dispatch, wake, wake-all, named, family, family-of, kill, lowest-free, newborn, birth, longer, gap, charge}
+use Rattle.rules.specs.Living.{sum-charged-same}
+use Rattle.rules.specs.Answers.{Outcome, plain, mask, giving, bearing, ending, waking, naming}
+use Rattle.rules.specs.Rules
+use Rattle.rules.specs.Rules.{Service, act, step}
+use Rattle.rules.specs.Walk.{charge-single, kill-none, kill-other}
+use Rattle.rules.specs.Laws.{accepts, passed}
+use Rattle.ledger.specs.Places.{alive}
+use Rattle.ledger.proofs.Masks.{length-sum}
+use Rattle.ledger.specs.Kills.{bad-call, passed-up, terminates, target-by, target}
+use Rattle.ledger.specs.Moves.{Move, none, steps-back, joins, first-wakes, all-wake, is-born, ends, call-moves, carried-out, move, Lists, moved, woken, ended, queue, Moved}
+
+-- ── Whoever runs goes on, or the first in the ready line runs: from the machine k, with the answer so far x ──
+
+record Settles (x : Answer) (k : Machine) (o : Outcome) : Type 0 where
+  runs : o .after .running ≡ front (k .running ++ k .ready)
+  ready : o .after .ready ≡ rest (k .running ++ k .ready)
+  waiting : o .after .waiting ≡ k .waiting
+  woken-mask : o .answer .woken ≡ x .woken
+  ended-mask : o .answer .ended ≡ x .ended
+
+goes-on : (x : Answer) (p : Process) (a : Action) (k : Machine) → k .running ≡ p ∷ [] → Settles x k (act a x k)
+goes-on x p a k r = record { runs = r ∙ ap (λ (ps : List Process). front (ps ++ k .ready)) (sym r); ready = ap (λ (ps : List Process). rest (ps ++ k .ready)) (sym r); waiting = refl; woken-mask = refl; ended-mask = refl }
+
+-- nobody is there to run
+rests : (x : Answer) (k : Machine) (o : Outcome) → k .running ≡ [] → k .ready ≡ []
+    → o .after .running ≡ k .running → o .after .ready ≡ k .ready → o .after .waiting ≡ k .waiting → o .answer .woken ≡ x .woken → o .answer .ended ≡ x .ended → Settles x k o
+rests x k o r e a b c d f = record { runs = a ∙ r ∙ sym (ap₂ (λ (ps qs : List Process). front (ps ++ qs)) r e); ready = b ∙ e ∙ sym (ap₂ (λ (ps qs : List Process). rest (ps ++ qs)) r e); waiting = c; woken-mask = d; ended-mask = f }
+
+schedules : (x : Answer) (k : Machine) → k .running ≡ [] → Settles x k (Rules.schedule x k)
+unfolding Rules.schedule Rules.nobody-ready dispatch
+schedules x k r =
+    first-cases (Settles x k) (k .ready)
+    (λ e. first-cases (Settles x k) (living k) (λ _. rests x k _ r e refl refl refl refl refl) λ p ys _.
+    if-cases (Settles x k) (nucleus-waits k) (λ _. rests x k _ r e refl refl refl refl refl) (λ _. rests x k _ r e refl refl refl refl refl))
+    (λ p ys e. record { runs = ap (λ (ps : List Process). front (ps ++ k .ready)) (sym r); ready = ap (λ (ps : List Process). rest (ps ++ k .ready)) (sym r); waiting = refl; woken-mask = refl; ended-mask = refl })
+
+resumes : (x : Answer) (k : Machine) → Single (k .running) → Settles x k (Rules.resume x k)
+unfolding Rules.resume Rules.carry-on
+resumes x k s = single-cases (Settles x k) (k .running) s (λ r. schedules x k r) (λ p r. goes-on x p _ k r)
+
+-- ── Each change is a move ──
+
+as-move : (v : Move) (m : Machine) (x : Answer) (k : Machine) (o : Outcome) → k .running ≡ moved v m .on → k .ready ≡ moved v m .ready → k .waiting ≡ moved v m .waiting
+    → x .woken ≡ mask (woken v m) → x .ended ≡ mask (ended v m) → Settles x k o → Moved v m o
+as-move v m x k o a b c u w s = record {
+  runs = s .runs ∙ ap₂ (λ (ps qs : List Process). front (ps ++ qs)) a b;
+  ready = s .ready ∙ ap₂ (λ (ps qs : List Process). rest (ps ++ qs)) a b;
+  waiting = s .waiting ∙ c;
+  woken-mask = s .woken-mask ∙ u;
+  ended-mask = s .ended-mask ∙ w;
+}
+
+no-mask : 0 ≡ mask []
+unfolding mask
+no-mask = refl
+
+-- nobody waits in the line: to wake the first is to move nobody
+none-gone : (t : Waiter → Bool) (ws : List Waiter) → map (λ w. w .process) (those t ws) ≡ [] → without t ws ≡ ws
+none-gone t [] e = refl
+none-gone t (w ∷ ws) e = go (t w) e (none-gone t ws)
+  where
+    go : (b : Bool) → map (λ w. w .process) (if b then w ∷ those t ws else those t ws) ≡ [] → (map (λ w. w .process) (those t ws) ≡ [] → without t ws ≡ ws) → (if b then ws else w ∷ without t ws) ≡ w ∷ ws
+    go true e ih = let z : _≡_ {A = ℕ} 0 1 = cc in absurd (omega arith)
+    go false e ih = ap (λ (vs : List Waiter). w ∷ vs) (ih e)
+
+nobody-wakes : (l : Line) (m : Machine) (o : Outcome) → line l m ≡ [] → Moved none m o → Moved (first-wakes l) m o
+unfolding line
+nobody-wakes l m o e s =
+    let q : m .ready ≡ m .ready ++ front (line l m) = sym (ap (λ (ps : List Process). m .ready ++ front ps) e ∙ append-nil (m .ready)) in
+    record {
+      runs = s .runs ∙ ap (λ (ps : List Process). front (m .running ++ ps)) q;
+      ready = s .ready ∙ ap (λ (ps : List Process). rest (m .running ++ ps)) q;
+      waiting = s .waiting ∙ sym (none-gone (at l) (m .waiting) e);
+      woken-mask = s .woken-mask ∙ ap (λ (ps : List Process). mask (front ps)) (sym e);
+      ended-mask = s .ended-mask;
+    }
+
+-- ── Pass up or die ──
+
+-- the move where p is running
+abbrev move-by : Event → Machine → Process → Move
+move-by e m p = first (target-by e m p) (if passed-up e m then none else carried-out e m) ends
+
+stays : (m : Machine) (x : Answer) (p : Process) (a : Action) → x .woken ≡ 0 → x .ended ≡ 0 → m .running ≡ p ∷ [] → Moved none m (act a x m)
+stays m x p a u w r = as-move none m x m _ refl refl refl (u ∙ no-mask) (w ∙ no-mask) (goes-on x p a m r)
+
+dies : (n : ℕ) (p : Process) (m : Machine) → family n p ≡ true → m .running ≡ p ∷ [] → Moved (ends n) m (Rules.die n m)
+unfolding Rules.die kill
+dies n p m f r = as-move (ends n) m (ending (family-of n m) plain) (kill n m) _ refl refl refl no-mask refl (schedules _ _ (kill-none n p m r f))
+
+own-family : (p : Process) → family (p .id) p ≡ true
+unfolding family
+own-family p = rw (eq-eqb (p .id) (p .id) refl)
+
+passes-or-dies : (e : Event) (c : Cause) (p : Process) (m : Machine) → passed-up e m ≡ true → m .running ≡ p ∷ [] → Moved (move-by e m p) m (Rules.pass-up-or-die c p m)
+unfolding Rules.pass-up-or-die
+passes-or-dies e c p m up r = rw up (go (eqb (p .handle) 0))
+  where
+    go : (b : Bool) → Moved (first (if b then p .id ∷ [] else []) none ends) m (if b then Rules.die (p .id) m else act (PassUp (p .slot) c) plain m)
+    go true = dies (p .id) p m (own-family p) r
+    go false = stays m plain p _ refl refl r
+
+-- an event that is carried out and ends nobody
+carried : (e : Event) (m : Machine) (p : Process) (o : Outcome) (v : Move) → passed-up e m ≡ false → terminates e p ≡ [] → carried-out e m ≡ v → Moved v m o → Moved (move-by e m p) m o
+carried e m p o v up t c h = rw (up, t, c) h
+
+-- ── The calls ──
+
+abbrev Serves : ℕ → Service → Type 0
+Serves n s = (now : ℕ) (p : Process) (a1 a2 a3 : ℕ) (m : Machine) → m .running ≡ p ∷ [] → Moved (move-by (Call now Kernel (negsuc n) a1 a2 a3) m p) m (s p a1 a2 a3 m)
+
+create : Serves 0 Rules.create
+unfolding Rules.create Rules.carry-on birth
+create now p a1 a2 a3 m r = go (Rules.full m)
+  where
+    x : Answer
+    x = giving (pos (m .next)) (bearing (lowest-free m) plain)
+
+    go : (b : Bool) → Moved (if b then none else is-born a2 a3) m (if b then Rules.carry-on p (giving (negsuc 0) plain) m else Rules.carry-on p x (birth p a2 a3 m))
+    go true = stays m (giving (negsuc 0) plain) p _ refl refl r
+    go false =
+        as-move (is-born a2 a3) m x (birth p a2 a3 m) _ refl (ap (λ (rs : List Process). m .ready ++ map (λ q. newborn q a2 a3 m) rs) (sym r)) refl no-mask no-mask
+        (goes-on x p _ (birth p a2 a3 m) r)
+
+module _ (t : Process → Bool) where
+  nobody-passes : (ps : List Process) → those t ps ≡ [] → any t ps ≡ false
+  nobody-passes [] e = refl
+  nobody-passes (p ∷ ps) e = go (t p) e (nobody-passes ps)
+    where
+      go : (b : Bool) → (if b then p ∷ those t ps else those t ps) ≡ [] → (those t ps ≡ [] → any t ps ≡ false) → b || any t ps ≡ false
+      go true e ih = let z : _≡_ {A = ℕ} 0 1 = cc in absurd (omega arith)
+      go false e ih = ih e
+
+  somebody-passes : (ps : List Process) (q : Process) (qs : List Process) → those t ps ≡ q ∷ qs → (any t ps ≡ true) × (t q ≡ true)
+  somebody-passes [] q qs e = let z : _≡_ {A = ℕ} 0 1 = cc in absurd (omega arith)
+  somebody-passes (p ∷ ps) q qs e = go (t p) refl e (somebody-passes ps q qs)
+    where
+      go : (b : Bool) → t p ≡ b → (if b then p ∷ those t ps else those t ps) ≡ q ∷ qs → (those t ps ≡ q ∷ qs → (any t ps ≡ true) × (t q ≡ true)) → (b || any t ps ≡ true) × (t q ≡ true)
+      go true f e ih = let z : p ≡ q = cc in (refl, rw z at f)
+      go false f e ih = ih e
+
+terminate : Serves 1 Rules.terminate
+unfolding Rules.terminate Rules.carry-on named kill
+terminate now p a1 a2 a3 m r = named-one (if eqb a1 0 then p .id else a1)
+  where
+    others : Process → Outcome
+    others q =
+        if family (q .id) p then Rules.die (q .id) m
+        else Rules.carry-on p (giving (pos 0) (ending (family-of (q .id) m) plain)) (kill (q .id) m)
+
+    named-one : (n : ℕ) → Moved (first (if any (λ q. eqb n (q .id)) (living m) then n ∷ [] else []) none ends) m (first (those (named n) (living m)) (Rules.carry-on p (giving (negsuc 0) plain) m) others)
+    named-one n =
+        first-cases (Moved (first (if any (λ q. eqb n (q .id)) (living m) then n ∷ [] else []) none ends) m) (those (named n) (living m))
+        (λ e. rw (nobody-passes (λ q. eqb n (q .id)) (living m) e) (stays m (giving (negsuc 0) plain) p _ refl refl r))
+        (λ q qs e.
+        let k = somebody-passes (λ q. eqb n (q .id)) (living m) q qs e in
+        let z : n ≡ q .id = eqb-true n (q .id) (k .1) in
+        rw (k .0) (subst (λ (j : ℕ). Moved (ends j) m (others q)) (sym z)
+        (if-cases (Moved (ends (q .id)) m) (family (q .id) p) (λ f. dies (q .id) p m f r)
+        (λ f. as-move (ends (q .id)) m (giving (pos 0) (ending (family-of (q .id) m) plain)) (kill (q .id) m) _ refl refl refl no-mask refl
+        (goes-on _ p _ (kill (q .id) m) (kill-other (q .id) p m r f))))))
+
+blocks : (l : Line) (x : Answer) (m : Machine) → x .woken ≡ 0 → x .ended ≡ 0 → Moved (joins l) m (Rules.schedule x (block l m))
+unfolding block
+blocks l x m u w = as-move (joins l) m x (block l m) _ refl refl refl (u ∙ no-mask) (w ∙ no-mask) (schedules x (block l m) refl)
+
+steps : (m : Machine) → Moved steps-back m (Rules.schedule plain (back m))
+unfolding back
+steps m = as-move steps-back m plain (back m) _ refl refl refl no-mask no-mask (schedules plain (back m) refl)
+
+passeren : Serves 2 Rules.passeren
+unfolding Rules.passeren Rules.carry-on Rules.trap
+passeren now p a1 a2 a3 m r = go (Rules.exists a1 m) refl
+  where
+    e : Event
+    e = Call now Kernel (negsuc 2) a1 a2 a3
+
+    taken : (c : Bool) → Rules.exists a1 m ≡ true → eqb (Rules.value a1 m) 0 ≡ c
+        → Moved (move-by e m p) m (if c then Rules.schedule plain (block (Semaphore a1) m) else Rules.carry-on p plain (with-sem a1 (Rules.value a1 m - 1) m))
+    taken true here q = carried e m p _ (joins (Semaphore a1)) (rw here) refl (rw q) (blocks (Semaphore a1) plain m refl refl)
+    taken false here q = carried e m p _ none (rw here) refl (rw q) (as-move none m plain (with-sem a1 (Rules.value a1 m - 1) m) _ refl refl refl no-mask no-mask (goes-on plain p _ _ r))
+
+    go : (b : Bool) → Rules.exists a1 m ≡ b
+        → Moved (move-by e m p) m (if b then (if eqb (Rules.value a1 m) 0 then Rules.schedule plain (block (Semaphore a1) m) else Rules.carry-on p plain (with-sem a1 (Rules.value a1 m - 1) m)) else Rules.trap p m)
+    go true here = taken (eqb (Rules.value a1 m) 0) here refl
+    go false gone = passes-or-dies e General p m (rw gone) r
+
+verhogen : Serves 3 Rules.verhogen
+unfolding Rules.verhogen Rules.carry-on Rules.trap wake
+verhogen now p a1 a2 a3 m r = go (Rules.may-rise a1 m) refl
+  where
+    e : Event
+    e = Call now Kernel (negsuc 3) a1 a2 a3
+
+    l : Line
+    l = Semaphore a1
+
+    served : Outcome
+    served = first (line l m) (Rules.carry-on p plain (with-sem a1 (Rules.value a1 m + 1) m)) (λ q. Rules.carry-on p (waking (q ∷ []) plain) (wake l m))
+
+    go : (b : Bool) → Rules.may-rise a1 m ≡ b → Moved (move-by e m p) m (if b then served else Rules.trap p m)
+    go true may = carried e m p _ (first-wakes l) (rw may) refl refl
+        (first-cases (Moved (first-wakes l) m) (line l m)
+        (λ f. nobody-wakes l m _ f (as-move none m plain (with-sem a1 (Rules.value a1 m + 1) m) _ refl refl refl no-mask no-mask (goes-on plain p _ _ r)))
+        (λ q ys f. as-move (first-wakes l) m (waking (q ∷ []) plain) (wake l m) _ refl refl refl (ap (λ (ps : List Process). mask (front ps)) (sym f)) no-mask (goes-on _ p _ (wake l m) r)))
+    go false shut = passes-or-dies e General p m (rw shut) r
+
+do-io : Serves 4 Rules.do-io
+unfolding Rules.do-io Rules.trap
+do-io now p a1 a2 a3 m r = go (ltb a1 sub-devices) refl
+  where
+    e : Event
+    e = Call now Kernel (negsuc 4) a1 a2 a3
+
+    go : (b : Bool) → ltb a1 sub-devices ≡ b → Moved (move-by e m p) m (if b then Rules.schedule (naming a1 plain) (block (Device a1) m) else Rules.trap p m)
+    go true q = carried e m p _ (joins (Device a1)) (lt-leb sub-devices a1 (ltb-true a1 sub-devices q)) refl refl (blocks (Device a1) (naming a1 plain) m refl refl)
+    go false q = passes-or-dies e General p m (le-leb sub-devices a1 (ltb-false a1 sub-devices q)) r
+
+cpu-time : Serves 5 Rules.cpu-time
+unfolding Rules.cpu-time Rules.carry-on
+cpu-time now p a1 a2 a3 m r = stays m (giving _ plain) p _ refl refl r
+
+wait-clock : Serves 6 Rules.wait-clock
+unfolding Rules.wait-clock
+wait-clock now p a1 a2 a3 m r = blocks PseudoClock plain m refl refl
+
+support : Serves 7 Rules.support
+unfolding Rules.support Rules.carry-on
+support now p a1 a2 a3 m r = stays m (giving _ plain) p _ refl refl r
+
+identity : Serves 8 Rules.identity
+unfolding Rules.identity Rules.carry-on
+identity now p a1 a2 a3 m r = stays m (giving _ plain) p _ refl refl r
+
+yield : Serves 9 Rules.yield
+unfolding Rules.yield
+yield now p a1 a2 a3 m r = steps m
+
+service : (mode : Mode) (a0 : ℤ) (now : ℕ) (p : Process) (a1 a2 a3 : ℕ) (m : Machine) → m .running ≡ p ∷ []
+    → Moved (move-by (Call now mode a0 a1 a2 a3) m p) m (Rules.service mode a0 p a1 a2 a3 m)
+unfolding Rules.service Rules.services Rules.trap
+service User a0 now p a1 a2 a3 m r = passes-or-dies (Call now User a0 a1 a2 a3) General p m refl r
+service Kernel (pos n) now p a1 a2 a3 m r = passes-or-dies (Call now Kernel (pos n) a1 a2 a3) General p m refl r
+service Kernel (negsuc n) now p a1 a2 a3 m r =
+    rw zero-add at (getD-past Serves 0 Rules.services
+    (create, (terminate, (passeren, (verhogen, (do-io, (cpu-time, (wait-clock, (support, (identity, (yield, tt))))))))))
+    (λ n h now p a1 a2 a3 m r. passes-or-dies (Call now Kernel (negsuc n) a1 a2 a3) General p m (rw (lt-ltb 10 (suc n) (omega (arith, h)))) r) n) now p a1 a2 a3 m r
+
+-- ── Any event ──
+
+move-runs : (e : Event) (m : Machine) (p : Process) → m .running ≡ p ∷ [] → move e m ≡ move-by e m p
+move-runs e m p r = ap (λ (rs : List Process). first (first rs [] (target-by e m)) (if passed-up e m then none else carried-out e m) ends) r
+
+-- an interrupt ends nobody
+quiet : (now n x y : ℕ) (m : Machine) → let e = Interrupt now n x y in move e m ≡ carried-out e m
+quiet now n x y m = go (m .running)
+  where
+    e : Event
+    e = Interrupt now n x y
+
+    go : (rs : List Process) → first (first rs [] (λ p. [])) (carried-out e m) ends ≡ carried-out e m
+    go [] = refl
+    go (p ∷ ps) = refl
+
+interrupt : (n x y : ℕ) (m : Machine) → Single (m .running) → eqb n 1 && first (m .running) true (λ p. false) ≡ false
+    → Moved (if eqb n 1 then steps-back else (if eqb n 2 then all-wake PseudoClock else first-wakes (Device (Rules.sub-device n x y)))) m (Rules.interrupt n x y m)
+unfolding Rules.interrupt Rules.tick Rules.device-done wake wake-all
+interrupt n x y m s k = go (eqb n 1) (eqb n 2) k
+  where
+    d : ℕ
+    d = Rules.sub-device n x y
+
+    l : Line
+    l = Device d
+
+    go : (b c : Bool) → b && first (m .running) true (λ p. false) ≡ false
+        → Moved (if b then steps-back else (if c then all-wake PseudoClock else first-wakes l)) m
+        (if b then Rules.runner m (λ p. Rules.schedule plain (back m)) else (if c then Rules.tick m else Rules.device-done d m))
+    go true c k = single-cases (Moved steps-back m) (m .running) s (λ r. absurd (true≢false (rw r at k))) (λ p r. steps m)
+    go false true k = as-move (all-wake PseudoClock) m (waking (line PseudoClock m) plain) (wake-all PseudoClock m) _ refl refl refl refl no-mask (resumes _ _ s)
+    go false false k =
+        first-cases (Moved (first-wakes l) m) (line l m)
+        (λ f. nobody-wakes l m _ f (as-move none m (naming d plain) m _ refl refl refl no-mask no-mask (resumes _ m s)))
+        (λ q ys f. as-move (first-wakes l) m (naming d (waking (q ∷ []) plain)) (wake l m) _ refl refl refl (ap (λ (ps : List Process). mask (front ps)) (sym f)) no-mask (resumes _ (wake l m) s))
+
+performed : (e : Event) (m : Machine) → Single (m .running) → Rules.needs-runner e && first (m .running) true (λ p. false) ≡ false → Moved (move e m) m (Rules.perform e m)
+unfolding Rules.call Rules.exception Rules.needs-runner Rules.trap Rules.tlb
+performed (Call now mode a0 a1 a2 a3) m s k =
+    let e = Call now mode a0 a1 a2 a3 in
+    single-cases (Moved (move e m) m) (m .running) s (λ r. absurd (true≢false (rw r at k))) (λ p r. rw (move-runs e m p r) (service mode a0 now p a1 a2 a3 m r))
+performed (Interrupt now n x y) m s k = rw (quiet now n x y m) (interrupt n x y m s k)
+performed (Exception now code) m s k =
+    let e = Exception now code in
+    single-cases (Moved (move e m) m) (m .running) s (λ r. absurd (true≢false (rw r at k))) (λ p r. rw (move-runs e m p r)
+    (if-cases (Moved (move-by e m p) m) (ltb code 24) (λ _. passes-or-dies e General p m refl r) (λ _. passes-or-dies e Tlb p m refl r)))
+
+-- ── The charge before it changes nothing that the move depends on ──
+
+pub any-many {ℓ} : {A : Type ℓ} (t : A → Bool) (xs : List A) → any t xs ≡ leb 1 (many t xs)
+any-many t [] = refl
+any-many t (x ∷ xs) = go (t x) (any-many t xs)
+  where
+    go : (b : Bool) → any t xs ≡ leb 1 (many t xs) → b || any t xs ≡ leb 1 (count b + many t xs)
+    go true ih = sym (le-leb 1 (1 + many t xs) (omega arith))
+    go false ih = ih ∙ ap (leb 1) (sym (zero-add (many t xs)))
+
+those-same {ℓ} : {A : Type ℓ} (t u : A → Bool) → ((x : A) → t x ≡ u x) → (xs : List A) → those t xs ≡ those u xs
+those-same t u h [] = refl
+those-same t u h (x ∷ xs) = rw (h x, those-same t u h xs)
+
+module _ (now : ℕ) (m : Machine) where
+  pub alive-charged : (n : ℕ) → alive n (charge now m) ≡ alive n m
+  alive-charged n =
+      any-many (λ p. eqb n (p .id)) (living (charge now m))
+      ∙ ap (leb 1) (sum-charged-same (λ p. count (eqb n (p .id))) (λ g p. refl) now m)
+      ∙ sym (any-many (λ p. eqb n (p .id)) (living m))
+
+  full-charged : Rules.full (charge now m) ≡ Rules.full m
+  unfolding Rules.full charge
+  full-charged =
+      ap (λ (n : ℕ). leb (m .slots) n || ltb top (m .next))
+      (length-sum (living (charge now m)) ∙ sum-charged-same (λ p. 1) (λ g p. refl) now m ∙ sym (length-sum (living m)))
+
+  up-charged : (e : Event) → passed-up e (charge now m) ≡ passed-up e m
+  unfolding charge
+  up-charged (Call k User a0 a1 a2 a3) = refl
+  up-charged (Call k Kernel (pos n) a1 a2 a3) = refl
+  up-charged (Call k Kernel (negsuc n) a1 a2 a3) = refl
+  up-charged (Interrupt k n x y) = refl
+  up-charged (Exception k code) = refl
+
+  calls-charged : (a1 a2 a3 : ℕ) → call-moves a1 a2 a3 (charge now m) ≡ call-moves a1 a2 a3 m
+  unfolding charge
+  calls-charged a1 a2 a3 = ap (λ (v : Move). v ∷ rest (call-moves a1 a2 a3 m)) (ap (λ (b : Bool). if b then none else is-born a2 a3) full-charged)
+
+  out-charged : (e : Event) → carried-out e (charge now m) ≡ carried-out e m
+  unfolding charge
+  out-charged (Call k mode (pos n) a1 a2 a3) = refl
+  out-charged (Call k mode (negsuc n) a1 a2 a3) = ap (λ (vs : List Move). getD vs n none) (calls-charged a1 a2 a3)
+  out-charged (Interrupt k n x y) = refl
+  out-charged (Exception k code) = refl
+
+  same-name : (g : ℕ) (e : Event) (p : Process) → terminates e (longer g p) ≡ terminates e p
+  same-name g (Call k User a0 a1 a2 a3) p = refl
+  same-name g (Call k Kernel (pos n) a1 a2 a3) p = refl
+  same-name g (Call k Kernel (negsuc n) a1 a2 a3) p = refl
+  same-name g (Interrupt k n x y) p = refl
+  same-name g (Exception k code) p = refl
+
+  by-charged : (g : ℕ) (e : Event) (p : Process) → target-by e (charge now m) (longer g p) ≡ target-by e m p
+  by-charged g e p = rw (up-charged e, same-name g e p, those-same (λ n. alive n (charge now m)) (λ n. alive n m) alive-charged (terminates e p)) refl
+
+  pub target-charged : (e : Event) → target e (charge now m) ≡ target e m
+  unfolding charge
+  target-charged e = go (m .running)
+    where
+      go : (rs : List Process) → first (map (longer (gap now m)) rs) [] (target-by e (charge now m)) ≡ first rs [] (target-by e m)
+      go [] = refl
+      go (p ∷ ps) = by-charged (gap now m) e p
+
+  pub move-charged : (e : Event) → move e (charge now m) ≡ move e m
+  move-charged e = rw (target-charged e, up-charged e, out-charged e) refl
+
+-- ── An accepted event: m is the machine before, and the gap is charged first ──
+
+pub moves-hold : (m : Machine) (e : Event) → Single (m .running) → Rules.refusal m e ≡ 0 → Moved (move e m) (charge (Rules.clock e) m) (step m e)
+unfolding Rules.rows charge
+moves-hold m e s ok =
+    let now = Rules.clock e in
+    rw (accepts m e ok, ← move-charged now m e) (performed e (charge now m) (charge-single now m s) (ap (λ (b : Bool). Rules.needs-runner e && b) (same (m .running)) ∙ passed m e ok .1 .1 .1 .1 .1 .0))
+  where
+    same : (rs : List Process) → first (map (longer (gap (Rules.clock e) m)) rs) true (λ p. false) ≡ first rs true (λ p. false)
+    same [] = refl
+    same (p ∷ ps) = refl

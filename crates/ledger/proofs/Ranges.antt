@@ -1,0 +1,445 @@
+-- Why everything kept and answered is in range where the words and bytes of the events are.
+use mathlib.Core.Path.{_≡_, refl, sym, _∙_, ap, subst}
+use mathlib.Core.Bool.{Bool, true, false, not, _&&_, _||_, true≢false}
+use mathlib.Core.List.{List, [], _∷_, _++_, map}
+use Prim.Native.Nat.{ℕ, zero, suc, _+_, _-_, _*_, _/_, _%_, _^_, _≤_, _<_}
+use native.Mathlib.Nat.{pow-suc}
+use native.Mathlib.Omega.{arith}
+use lib.Dec.{eqb, leb, ltb}
+use lib.IntN.{ℤ, pos, negsuc}
+use lib.ListN.{getD}
+use lib.Pow.{pow-pos}
+use borrow.Author.Tests.{eqb-true, eqb-false, eq-eqb, leb-true, leb-false, ltb-true, ltb-false, le-leb, le-ltb}
+use Rattle.rules.specs.declared.Mode.{Mode}
+use Rattle.rules.specs.declared.Mode.the-variants.{User, Kernel}
+use Rattle.rules.specs.declared.Event.{Event}
+use Rattle.rules.specs.declared.Event.the-variants.{Call, Interrupt, Exception}
+use Rattle.rules.specs.declared.Line.the-variants.{Semaphore, Device, PseudoClock}
+use Rattle.rules.specs.declared.Cause.{Cause}
+use Rattle.rules.specs.declared.Cause.the-variants.{Tlb, General}
+use Rattle.rules.specs.declared.Action.{Action}
+use Rattle.rules.specs.declared.Result.{Result}
+use Rattle.rules.specs.declared.Part.{Part}
+use Rattle.rules.specs.declared.Part.the-variants.{Absent, Number}
+use Rattle.rules.specs.declared.Answer.{Answer}
+use Rattle.rules.specs.Words.{if_then_else_, first, those, front, sum, count, many}
+use Rattle.rules.specs.Numbers.{sub-devices}
+use Rattle.rules.specs.Cases.{if-cases, first-cases, Single, All, All-over, All-under, All-append, All-those, All-front, All-rest, All-without, getD-cases}
+use Rattle.rules.specs.Sums.{sum-over, sum-front}
+use Rattle.rules.specs.Machine.{Process, Waiter, Machine, living, at, line, nucleus-waits, named, family, longer, newborn, gap, charge, fresh}
+use Rattle.rules.specs.Living.{process, living-sum, sum-killed, each-charged, all-living, all-running, all-ready, all-waiting}
+use Rattle.rules.specs.Answers.{Outcome, plain, mask, doing, giving}
+use Rattle.rules.specs.Rules
+use Rattle.rules.specs.Rules.{Service, step, run, answers, lowest-bit, sub-device, bad-line}
+use Rattle.rules.specs.Laws.{accepts, passed}
+use Rattle.rules.specs.Sound.{or-left, or-right, issued, Sound, in-slot, seated, sound-charged, named-after}
+use Rattle.rules.specs.Walk.{charge-single}
+use Rattle.rules.specs.Tables.{Tables, keeps, sound, short}
+use Rattle.ledger.specs.Ids.{Newborn-told}
+use Rattle.ledger.specs.Kills.{passed-up, target}
+use Rattle.ledger.specs.Moves.{Move, none, steps-back, joins, first-wakes, all-wake, is-born, ends, call-moves, carried-out, move, moved, woken, ended, queue, Moved}
+use Rattle.ledger.specs.Ranges.{Well-formed, Ranged, Fits-result, Below, Fits}
+use Rattle.ledger.proofs.Lines.{line-all, line-few}
+use Rattle.ledger.proofs.Verdicts.{by-verdict}
+use Rattle.ledger.proofs.Births.{answered}
+use Rattle.ledger.proofs.Newborns.{newborn-told}
+use Rattle.ledger.proofs.Moves.{moves-hold}
+use Rattle.ledger.proofs.Masks.{ones-within}
+
+-- ── Sub-devices ──
+
+-- the lowest bit of a number that is not 0, among k bits
+bit-within : (k b : ℕ) → 1 ≤ b → b < 2 ^ k → lowest-bit k b < k
+bit-within zero b a h = absurd (omega arith)
+bit-within (suc k) b a h = go (eqb (b % 2) 1) refl (bit-within k (b / 2))
+  where
+    go : (c : Bool) → eqb (b % 2) 1 ≡ c → (1 ≤ b / 2 → b / 2 < 2 ^ k → lowest-bit k (b / 2) < k) → (if c then 0 else suc (lowest-bit k (b / 2))) < suc k
+    go true e ih = omega arith
+    go false e ih = let z : b % 2 ≡ 1 → ⊥ = eqb-false (b % 2) 1 e in let p = pow-suc 2 k in omega (arith, ih (omega arith) (omega arith))
+
+bit-most : (k b : ℕ) → lowest-bit k b ≤ k
+bit-most zero b = omega arith
+bit-most (suc k) b = go (eqb (b % 2) 1) (bit-most k (b / 2))
+  where
+    go : (c : Bool) → lowest-bit k (b / 2) ≤ k → (if c then 0 else suc (lowest-bit k (b / 2))) ≤ suc k
+    go true ih = omega arith
+    go false ih = omega arith
+
+-- "transmission before receipt of that device": the lower of two numbers of at most 8, of which one is below
+lower-within : (i j : ℕ) → j ≤ 8 → i ≤ 8 → (8 ≤ i → j < 8) → (if leb i j then 32 + i else 40 + j) < sub-devices
+lower-within i j a b h = go (leb i j) refl (ltb i 8) refl
+  where
+    go : (c : Bool) → leb i j ≡ c → (d : Bool) → ltb i 8 ≡ d → (if c then 32 + i else 40 + j) < sub-devices
+    go true e true f = let z = ltb-true i 8 f in omega arith
+    go true e false f = let y = leb-true i j e in let q = ltb-false i 8 f in let z = h q in absurd (omega arith)
+    go false e d f = let z = leb-false i j e in omega arith
+
+one-within : (n i : ℕ) → 3 ≤ n → n < 7 → i < 8 → (n - 3) * 8 + i < sub-devices
+one-within n i a b c = omega arith
+
+-- a line that is not refused, 3 to 7, serves one of the 48 sub-devices
+module _ (now n x y : ℕ) (ok : bad-line (Interrupt now n x y) ≡ false) (three : 3 ≤ n) (fx : x < 2 ^ 8) (fy : y < 2 ^ 8) where
+  seven : n ≤ 7
+  unfolding bad-line
+  seven = ltb-false 7 n (or-right (ltb n 1) (ltb 7 n) (or-left (ltb n 1 || ltb 7 n) (leb 3 n && eqb x 0 && (ltb n 7 || eqb y 0)) ok))
+
+  bytes : eqb x 0 && (ltb n 7 || eqb y 0) ≡ false
+  unfolding bad-line
+  bytes = rw (le-leb 3 n three) at (or-right (ltb n 1 || ltb 7 n) (leb 3 n && eqb x 0 && (ltb n 7 || eqb y 0)) ok)
+
+  bit : (b : ℕ) → b < 2 ^ 8 → (b ≡ 0 → ⊥) → lowest-bit 8 b < 8
+  bit b h z = bit-within 8 b (omega arith) h
+
+  -- the first byte is not 0, or the line is 7 and the second is not
+  first-byte : (c : Bool) → eqb x 0 ≡ c → c && (ltb n 7 || eqb y 0) ≡ false → (8 ≤ lowest-bit 8 x → (7 ≤ n) × (lowest-bit 8 y < 8))
+  first-byte true e k l = (ltb-false n 7 (or-left (ltb n 7) (eqb y 0) k), bit y fy (eqb-false y 0 (or-right (ltb n 7) (eqb y 0) k)))
+  first-byte false e k l = let z = bit x fx (eqb-false x 0 e) in absurd (omega (arith, z, l))
+
+  device-within : sub-device n x y < sub-devices
+  unfolding sub-device
+  device-within = go (eqb n 7) refl
+    where
+      go : (c : Bool) → eqb n 7 ≡ c → (if c then (if leb (lowest-bit 8 x) (lowest-bit 8 y) then 32 + lowest-bit 8 x else 40 + lowest-bit 8 y) else (n - 3) * 8 + lowest-bit 8 x) < sub-devices
+      go true e = lower-within (lowest-bit 8 x) (lowest-bit 8 y) (bit-most 8 y) (bit-most 8 x) (λ l. first-byte (eqb x 0) refl bytes l .1)
+      go false e = let z : n ≡ 7 → ⊥ = eqb-false n 7 e in one-within n (lowest-bit 8 x) three (omega (arith, seven)) (small (ltb (lowest-bit 8 x) 8) refl (omega (arith, seven)))
+        where
+          small : (d : Bool) → ltb (lowest-bit 8 x) 8 ≡ d → n < 7 → lowest-bit 8 x < 8
+          small true f l = ltb-true (lowest-bit 8 x) 8 f
+          small false f l = let k = first-byte (eqb x 0) refl bytes (ltb-false (lowest-bit 8 x) 8 f) .0 in absurd (omega (arith, k, l))
+
+-- ── Results and sub-devices of answers ──
+
+-- an answer so far
+record Neat (x : Answer) : Type 0 where
+  result : Fits-result (x .result)
+  device : Below sub-devices (x .device)
+
+neat : Neat plain
+neat = record { result = tt; device = tt }
+
+abbrev Ends-neat : Outcome → Type 0
+Ends-neat o = Neat (o .answer)
+
+schedule-neat : (x : Answer) (m : Machine) → Neat x → Ends-neat (Rules.schedule x m)
+unfolding Rules.schedule Rules.nobody-ready
+schedule-neat x m h =
+    let same : (a : Action) → Neat (doing a x) = λ a. record { result = h .result; device = h .device } in
+    first-cases Ends-neat (m .ready)
+    (λ _. first-cases Ends-neat (living m) (λ _. same _) λ _ _ _. if-cases Ends-neat (nucleus-waits m) (λ _. same _) (λ _. same _))
+    (λ p ys _. same _)
+
+carry-neat : (p : Process) (x : Answer) (m : Machine) → Neat x → Ends-neat (Rules.carry-on p x m)
+unfolding Rules.carry-on
+carry-neat p x m h = record { result = h .result; device = h .device }
+
+resume-neat : (x : Answer) (m : Machine) → Neat x → Ends-neat (Rules.resume x m)
+unfolding Rules.resume
+resume-neat x m h = first-cases Ends-neat (m .running) (λ _. schedule-neat x m h) (λ p ys _. carry-neat p x m h)
+
+-- the caller's numbers, and the next id
+record Caller (p : Process) (m : Machine) : Type 0 where
+  time : p .time < 2 ^ 63
+  handle : p .handle < 2 ^ 63
+  id : p .id < 2 ^ 63
+  parent : first (p .ancestors) 0 (λ n. n) < 2 ^ 63
+  next : m .next < 2 ^ 63
+
+abbrev Says-neat : Service → Type 0
+Says-neat s = (p : Process) (a1 a2 a3 : ℕ) (m : Machine) → Caller p m → Ends-neat (s p a1 a2 a3 m)
+
+or-die-neat : (c : Cause) (p : Process) (m : Machine) → Ends-neat (Rules.pass-up-or-die c p m)
+unfolding Rules.pass-up-or-die Rules.die
+or-die-neat c p m = if-cases Ends-neat (eqb (p .handle) 0) (λ _. schedule-neat _ _ (record { result = tt; device = tt })) (λ _. record { result = tt; device = tt })
+
+trapped : Says-neat Rules.trapped
+unfolding Rules.trap
+trapped p a1 a2 a3 m c = or-die-neat General p m
+
+giving-neat : (n : ℕ) (x : Answer) → n < 2 ^ 63 → Neat x → Neat (giving (pos n) x)
+giving-neat n x l h = record { result = l; device = h .device }
+
+create : Says-neat Rules.create
+unfolding Rules.create
+create p a1 a2 a3 m c =
+    if-cases Ends-neat (Rules.full m) (λ _. carry-neat p _ m (record { result = omega arith; device = tt }))
+    (λ _. carry-neat p _ _ (record { result = c .next; device = tt }))
+
+terminate : Says-neat Rules.terminate
+unfolding Rules.terminate Rules.die
+terminate p a1 a2 a3 m c =
+    first-cases Ends-neat (those (named (if eqb a1 0 then p .id else a1)) (living m)) (λ _. carry-neat p _ m (record { result = omega arith; device = tt })) λ q ys _.
+    if-cases Ends-neat (family (q .id) p) (λ _. schedule-neat _ _ (record { result = tt; device = tt })) (λ _. carry-neat p _ _ (record { result = omega arith; device = tt }))
+
+passeren : Says-neat Rules.passeren
+unfolding Rules.passeren Rules.trap
+passeren p a1 a2 a3 m c =
+    if-cases Ends-neat (Rules.exists a1 m) (λ _. if-cases Ends-neat (eqb (Rules.value a1 m) 0) (λ _. schedule-neat plain _ neat) (λ _. carry-neat p plain _ neat)) (λ _. or-die-neat General p m)
+
+verhogen : Says-neat Rules.verhogen
+unfolding Rules.verhogen Rules.trap
+verhogen p a1 a2 a3 m c =
+    if-cases Ends-neat (Rules.may-rise a1 m) (λ _. first-cases Ends-neat (line (Semaphore a1) m) (λ _. carry-neat p plain _ neat) (λ q ys _. carry-neat p _ _ (record { result = tt; device = tt }))) (λ _. or-die-neat General p m)
+
+do-io : Says-neat Rules.do-io
+unfolding Rules.do-io Rules.trap
+do-io p a1 a2 a3 m c = if-cases Ends-neat (ltb a1 sub-devices) (λ e. schedule-neat _ _ (record { result = tt; device = ltb-true a1 sub-devices e })) (λ _. or-die-neat General p m)
+
+cpu-time : Says-neat Rules.cpu-time
+unfolding Rules.cpu-time
+cpu-time p a1 a2 a3 m c = carry-neat p _ m (giving-neat (p .time) plain (c .time) neat)
+
+wait-clock : Says-neat Rules.wait-clock
+unfolding Rules.wait-clock
+wait-clock p a1 a2 a3 m c = schedule-neat plain _ neat
+
+support : Says-neat Rules.support
+unfolding Rules.support
+support p a1 a2 a3 m c = carry-neat p _ m (giving-neat (p .handle) plain (c .handle) neat)
+
+identity : Says-neat Rules.identity
+unfolding Rules.identity
+identity p a1 a2 a3 m c = carry-neat p _ m (giving-neat _ plain (if-cases (λ (n : ℕ). n < 2 ^ 63) (eqb a1 0) (λ _. c .id) (λ _. c .parent)) neat)
+
+yield : Says-neat Rules.yield
+unfolding Rules.yield
+yield p a1 a2 a3 m c = schedule-neat plain _ neat
+
+service : (mode : Mode) (a0 : ℤ) → Says-neat (Rules.service mode a0)
+unfolding Rules.service Rules.services
+service User a0 = trapped
+service Kernel (pos n) = trapped
+service Kernel (negsuc n) =
+    getD-cases Says-neat Rules.services (create, (terminate, (passeren, (verhogen, (do-io, (cpu-time, (wait-clock, (support, (identity, (yield, tt)))))))))) trapped n
+
+interrupt : (now n x y : ℕ) (m : Machine) → bad-line (Interrupt now n x y) ≡ false → x < 2 ^ 8 → y < 2 ^ 8 → Ends-neat (Rules.interrupt n x y m)
+unfolding Rules.interrupt Rules.tick Rules.device-done bad-line
+interrupt now n x y m ok fx fy =
+    if-cases Ends-neat (eqb n 1) (λ _. first-cases Ends-neat (m .running) (λ _. schedule-neat plain m neat) (λ _ _ _. schedule-neat plain _ neat)) λ not-one.
+    if-cases Ends-neat (eqb n 2) (λ _. resume-neat _ _ (record { result = tt; device = tt })) λ not-two.
+    let a : 1 ≤ n = ltb-false n 1 (or-left (ltb n 1) (ltb 7 n) (or-left (ltb n 1 || ltb 7 n) (leb 3 n && eqb x 0 && (ltb n 7 || eqb y 0)) ok)) in
+    let b : n ≡ 1 → ⊥ = eqb-false n 1 not-one in
+    let c : n ≡ 2 → ⊥ = eqb-false n 2 not-two in
+    let d = device-within now n x y ok (omega arith) fx fy in
+    first-cases Ends-neat (line (Device (sub-device n x y)) m) (λ _. resume-neat _ m (record { result = tt; device = d })) (λ q ys _. resume-neat _ _ (record { result = tt; device = d }))
+
+-- ── Who calls ──
+
+module _ (slots sems : ℕ) (m : Machine) (e : Event) (t : Tables slots sems m) (w : Ranged m) (ok : Rules.refusal m e ≡ 0) where
+  abbrev g : ℕ
+  g = gap (Rules.clock e) m
+
+  abbrev m₁ : Machine
+  m₁ = charge (Rules.clock e) m
+
+  not-full : m .total + gap (Rules.clock e) m ≤ 2 ^ 62
+  unfolding Rules.rows
+  not-full = ltb-false (2 ^ 62) (m .total + gap (Rules.clock e) m) (passed m e ok .1 .1 .1 .1 .0)
+
+  parent-low : (n : ℕ) (ns : List ℕ) → All (λ a. a < n) ns → n < 2 ^ 63 → first ns 0 (λ n. n) < 2 ^ 63
+  parent-low n [] h l = omega arith
+  parent-low n (a ∷ ns) h l = omega (arith, h .0)
+
+  callers : All (λ p. Caller p m₁) (m₁ .running)
+  unfolding charge
+  callers =
+      All-over (λ p. Caller p m₁) (longer g) (m .running)
+      (go (m .running) (all-running _ m (short slots sems m t)) (all-running _ m (w .words)) (all-running _ m (issued m (sound slots sems m t))) (all-running _ m (t .older)))
+    where
+      go : (ps : List Process) → All (λ p. p .time ≤ m .total) ps → All (λ p. (p .priority < 2 ^ 32) × (p .handle < 2 ^ 32)) ps → All (λ p. p .id < m .next) ps
+          → All (λ p. (1 ≤ p .id) × All (λ a. a < p .id) (p .ancestors)) ps → All (λ p. Caller (longer g p) m₁) ps
+      go [] a b c d = tt
+      go (p ∷ ps) a b c d =
+          let low : p .id < 2 ^ 63 = omega (arith, c .0, t .limits .2) in (
+            record { time = omega (arith, a .0, not-full); handle = omega (arith, b .0 .1); id = low; parent = parent-low (p .id) (p .ancestors) (d .0 .1) low; next = omega (arith, t .limits .2) },
+            go ps (a .1) (b .1) (c .1) (d .1),
+          )
+
+performs-neat : (e : Event) (k : Machine) → Well-formed e → bad-line e ≡ false → All (λ p. Caller p k) (k .running) → Ends-neat (Rules.perform e k)
+unfolding Rules.call Rules.exception Rules.trap Rules.tlb
+performs-neat (Call now mode a0 a1 a2 a3) k f ok c =
+    first-cases Ends-neat (k .running) (λ _. schedule-neat plain k neat) (λ p ys r. service mode a0 p a1 a2 a3 k (subst (All (λ p. Caller p k)) r c .0))
+performs-neat (Interrupt now n x y) k f ok c = interrupt now n x y k ok (f .2) (f .3)
+performs-neat (Exception now code) k f ok c =
+    first-cases Ends-neat (k .running) (λ _. schedule-neat plain k neat) (λ p ys r. if-cases Ends-neat (ltb code 24) (λ _. or-die-neat General p k) (λ _. or-die-neat Tlb p k))
+
+-- ── Masks ──
+
+-- a mask of slots that differ, all below w, is below 2 to the w
+mask-within : (w : ℕ) (ps : List Process) → ((s : ℕ) → many (λ p. eqb s (p .slot)) ps ≤ count (ltb s w)) → mask ps < 2 ^ w
+unfolding mask
+mask-within w ps h = subst (λ (n : ℕ). n < 2 ^ w) (sum-over (λ (s : ℕ). 2 ^ s) (λ p. p .slot) ps) (ones-within w (map (λ p. p .slot) ps) (λ s. omega (arith, sum-over (λ (k : ℕ). count (eqb s k)) (λ p. p .slot) ps, h s)))
+
+-- so is the mask of some of the living
+mask-of : (slots : ℕ) (m : Machine) (ps : List Process) → Sound m → m .slots ≡ slots → ((f : Process → ℕ) → sum f ps ≤ sum f (living m)) → mask ps < 2 ^ slots
+mask-of slots m ps g e h = mask-within slots ps (λ s. omega (arith, h (λ p. count (eqb s (p .slot))), subst (λ (i : ℕ). in-slot s m ≤ count (ltb s i)) e (g .slots s)))
+
+-- those who are woken, and those who end, are of the living
+woken-sum : (f : Process → ℕ) (v : Move) (m : Machine) → sum f (woken v m) ≤ sum f (living m)
+woken-sum f none m = omega arith
+woken-sum f steps-back m = omega arith
+woken-sum f (joins l) m = omega arith
+woken-sum f (first-wakes l) m = omega (arith, sum-front f (line l m), line-few f l m, living-sum f m)
+woken-sum f (all-wake l) m = omega (arith, line-few f l m, living-sum f m)
+woken-sum f (is-born a2 a3) m = omega arith
+woken-sum f (ends n) m = omega arith
+
+ended-sum : (f : Process → ℕ) (v : Move) (m : Machine) → sum f (ended v m) ≤ sum f (living m)
+ended-sum f none m = omega arith
+ended-sum f steps-back m = omega arith
+ended-sum f (joins l) m = omega arith
+ended-sum f (first-wakes l) m = omega arith
+ended-sum f (all-wake l) m = omega arith
+ended-sum f (is-born a2 a3) m = omega arith
+ended-sum f (ends n) m = omega (arith, sum-killed f n m)
+
+-- ── What the machine keeps ──
+
+Words : Process → Type 0
+Words p = (p .priority < 2 ^ 32) × (p .handle < 2 ^ 32)
+
+-- a newborn's priority and handle are words of the event
+abbrev Small : Move → Type 0
+Small none = Unit {0}
+Small steps-back = Unit {0}
+Small (joins l) = Unit {0}
+Small (first-wakes l) = Unit {0}
+Small (all-wake l) = Unit {0}
+Small (is-born a2 a3) = (a2 < 2 ^ 32) × (a3 < 2 ^ 32)
+Small (ends n) = Unit {0}
+
+out-small : (e : Event) (m : Machine) → Well-formed e → Small (carried-out e m)
+out-small (Call now mode (pos n) a1 a2 a3) m f = tt
+out-small (Call now mode (negsuc n) a1 a2 a3) m f =
+    getD-cases Small (call-moves a1 a2 a3 m) (
+      if-cases Small (Rules.full m) (λ _. tt) (λ _. (f .2, f .3)),
+      (tt, (if-cases Small (eqb (Rules.value a1 m) 0) (λ _. tt) (λ _. tt), (tt, (tt, (tt, (tt, (tt, (tt, (tt, tt))))))))),
+    ) tt n
+out-small (Interrupt now n x y) m f = if-cases Small (eqb n 1) (λ _. tt) (λ _. if-cases Small (eqb n 2) (λ _. tt) (λ _. tt))
+out-small (Exception now code) m f = tt
+
+move-small : (e : Event) (m : Machine) → Well-formed e → Small (move e m)
+move-small e m f = first-cases Small (target e m) (λ _. if-cases Small (passed-up e m) (λ _. tt) (λ _. out-small e m f)) (λ n ns _. tt)
+
+newborns : (a2 a3 : ℕ) (m : Machine) → (a2 < 2 ^ 32) × (a3 < 2 ^ 32) → (ps : List Process) → All Words (map (λ p. newborn p a2 a3 m) ps)
+unfolding Words
+newborns a2 a3 m h [] = tt
+newborns a2 a3 m h (p ∷ ps) = (h, newborns a2 a3 m h ps)
+
+-- what holds for each of the living and for a newborn holds for each in the lists after the move
+module _ (m : Machine) (h : All Words (living m)) where
+  runs : All Words (m .running)
+  runs = all-running Words m h
+
+  rdy : All Words (m .ready)
+  rdy = all-ready Words m h
+
+  wts : All (λ w. Words (w .process)) (m .waiting)
+  wts = All-under Words process (m .waiting) (all-waiting Words m h)
+
+  on-words : (v : Move) → All Words (moved v m .on)
+  on-words none = runs
+  on-words steps-back = tt
+  on-words (joins l) = tt
+  on-words (first-wakes l) = runs
+  on-words (all-wake l) = runs
+  on-words (is-born a2 a3) = runs
+  on-words (ends n) = All-those Words (λ p. not (family n p)) (m .running) runs
+
+  ready-words : (v : Move) → Small v → All Words (moved v m .ready)
+  ready-words none s = rdy
+  ready-words steps-back s = All-append Words (m .ready) (m .running) rdy runs
+  ready-words (joins l) s = rdy
+  ready-words (first-wakes l) s = All-append Words (m .ready) (front (line l m)) rdy (All-front Words (line l m) (line-all Words l m h))
+  ready-words (all-wake l) s = All-append Words (m .ready) (line l m) rdy (line-all Words l m h)
+  ready-words (is-born a2 a3) s = All-append Words (m .ready) (map (λ p. newborn p a2 a3 m) (m .running)) rdy (newborns a2 a3 m s (m .running))
+  ready-words (ends n) s = All-those Words (λ p. not (family n p)) (m .ready) rdy
+
+  waiting-words : (v : Move) → All (λ w. Words (w .process)) (moved v m .waiting)
+  waiting-words none = wts
+  waiting-words steps-back = wts
+  waiting-words (joins l) = All-append (λ w. Words (w .process)) (m .waiting) _ wts (All-over (λ w. Words (w .process)) (λ p. record { process = p; line = l }) (m .running) runs)
+  waiting-words (first-wakes l) = All-without (λ w. Words (w .process)) (at l) (m .waiting) wts
+  waiting-words (all-wake l) = All-those (λ w. Words (w .process)) (λ w. not (at l w)) (m .waiting) wts
+  waiting-words (is-born a2 a3) = wts
+  waiting-words (ends n) = All-those (λ w. Words (w .process)) (λ w. not (family n (w .process))) (m .waiting) wts
+
+  words-after : (v : Move) (o : Outcome) → Moved v m o → Small v → All Words (living (o .after))
+  words-after v o w s =
+      let q : All Words (queue v m) = All-append Words (moved v m .on) (moved v m .ready) (on-words v) (ready-words v s) in
+      all-living Words (o .after)
+      (subst (All Words) (sym (w .runs)) (All-front Words (queue v m) q))
+      (subst (All Words) (sym (w .ready)) (All-rest Words (queue v m) q))
+      (subst (λ (ws : List Waiter). All Words (map process ws)) (sym (w .waiting)) (All-over Words process (moved v m .waiting) (waiting-words v)))
+
+-- ── Every event ──
+
+newborn-within : (slots : ℕ) (p : Part) (r : Result) (m : Machine) → m .slots ≡ slots → Newborn-told p r m → Below slots p
+newborn-within slots Absent r m e h = tt
+newborn-within slots (Number s) r m e h = subst (λ (i : ℕ). s < i) e (h .there)
+
+clock-within : (e : Event) → Well-formed e → Rules.clock e < 2 ^ 32
+clock-within (Call now mode a0 a1 a2 a3) f = f .0
+clock-within (Interrupt now n x y) f = f .0
+clock-within (Exception now code) f = f .0
+
+number-within : (rs : List (ℕ × Bool)) → All (λ r. r .0 < 2 ^ 8) rs → first (those (λ r. r .1) rs) 0 (λ r. r .0) < 2 ^ 8
+number-within [] h = omega arith
+number-within (r ∷ rs) h = go (r .1) (number-within rs (h .1))
+  where
+    go : (b : Bool) → first (those (λ r. r .1) rs) 0 (λ r. r .0) < 2 ^ 8 → first (if b then r ∷ those (λ r. r .1) rs else those (λ r. r .1) rs) 0 (λ r. r .0) < 2 ^ 8
+    go true ih = h .0
+    go false ih = ih
+
+refusal-within : (m : Machine) (e : Event) → Rules.refusal m e < 2 ^ 8
+unfolding Rules.refusal Rules.rows
+refusal-within m e = number-within (Rules.rows m e) (omega arith, (omega arith, (omega arith, (omega arith, (omega arith, (omega arith, tt))))))
+
+pub record In-range (slots : ℕ) (o : Outcome) : Type 0 where
+  pub kept : Ranged (o .after)
+  pub said : Fits slots (o .answer)
+
+module _ (slots sems : ℕ) (m : Machine) (e : Event) (t : Tables slots sems m) (w : Ranged m) (f : Well-formed e) where
+  accepted-range : Rules.refusal m e ≡ 0 → In-range slots (step m e)
+  unfolding Rules.rows charge Words
+  accepted-range ok =
+      let now = Rules.clock e in
+      let k = charge now m in
+      let o = Rules.perform e k in
+      let one = charge-single now m (t .one-runs) in
+      let a = answered e k one in
+      let n = performs-neat e k f (passed m e ok .1 .0) (callers slots sems m e t w ok) in
+      let v : Moved (move e m) k o = rw (accepts m e ok) at (moves-hold m e (t .one-runs) ok) in
+      let t′ : Tables slots sems (o .after) = rw (accepts m e ok) at (keeps slots sems m e t) in
+      let g = sound-charged now m (sound slots sems m t) in
+      rw (accepts m e ok) record {
+        kept = record { last = subst (λ (i : ℕ). i < 2 ^ 32) (sym (a .1)) (clock-within e f); words = words-after k (each-charged Words (λ g p h. h) now m (w .words)) (move e m) o v (move-small e m f) };
+        said = record {
+          refusal = omega (arith, a .0);
+          runner = subst (All (λ s. s < slots)) (named-after k e one .1) (All-over (λ s. s < slots) (λ p. p .slot) (o .after .running) (all-running _ (o .after) (subst (λ (i : ℕ). All (λ p. p .slot < i) (living (o .after))) (t′ .slots-there) (seated (o .after) (sound slots sems (o .after) t′)))));
+          result = n .result;
+          newborn = newborn-within slots (o .answer .newborn) (o .answer .result) m (t .slots-there) (rw (accepts m e ok) at (newborn-told m e (sound slots sems m t, t .one-runs)));
+          device = n .device;
+          woken = subst (λ (i : ℕ). i < 2 ^ slots) (sym (v .woken-mask)) (mask-of slots k (woken (move e m) k) g (t .slots-there) (λ f. woken-sum f (move e m) k));
+          ended = subst (λ (i : ℕ). i < 2 ^ slots) (sym (v .ended-mask)) (mask-of slots k (ended (move e m) k) g (t .slots-there) (λ f. ended-sum f (move e m) k));
+        };
+      }
+
+  pub in-range : In-range slots (step m e)
+  unfolding Rules.refused
+  in-range = by-verdict (In-range slots) m e accepted-range (λ _. record {
+    kept = w;
+    said = record { refusal = refusal-within m e; runner = tt; result = tt; newborn = tt; device = tt; woken = pow-pos slots; ended = pow-pos slots };
+  })
+
+-- any events: the machine after them, and each answer
+pub ranges-hold : (slots sems : ℕ) (es : List Event) (m : Machine) → Tables slots sems m → Ranged m → All Well-formed es → Ranged (run m es) × All (Fits slots) (answers m es)
+unfolding run answers
+ranges-hold slots sems [] m t w f = (w, tt)
+ranges-hold slots sems (e ∷ es) m t w f =
+    let i = in-range slots sems m e t w (f .0) in
+    let k = ranges-hold slots sems es (step m e .after) (keeps slots sems m e t) (i .kept) (f .1) in
+    (k .0, (i .said, k .1))
+
+pub fresh-ranged : (slots now : ℕ) (values : List ℕ) → now < 2 ^ 32 → Ranged (fresh slots now values)
+unfolding fresh living
+fresh-ranged slots now values h = record { last = h; words = ((omega arith, omega arith), tt) }

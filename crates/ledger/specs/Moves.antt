@@ -1,0 +1,116 @@
+-- WHO MOVES. What an accepted event does to the places: nobody moves but as one of seven rows says, and then the first in the ready line runs
+-- where nobody does. So everybody else keeps their place and their order within their line.
+use mathlib.Core.Path.{_≡_}
+use mathlib.Core.Bool.{not}
+use mathlib.Core.List.{List, [], _∷_, _++_, map}
+use Prim.Native.Nat.{ℕ}
+use lib.Dec.{eqb}
+use lib.IntN.{pos, negsuc}
+use lib.ListN.{getD}
+use Rattle.rules.specs.declared.Mode.{Mode}
+use Rattle.rules.specs.declared.Event.{Event}
+use Rattle.rules.specs.declared.Event.the-variants.{Call, Interrupt, Exception}
+use Rattle.rules.specs.declared.Line.{Line}
+use Rattle.rules.specs.declared.Line.the-variants.{Semaphore, Device, PseudoClock}
+use Rattle.rules.specs.declared.Answer.{Answer}
+use Rattle.rules.specs.Words.{if_then_else_, first, those, front, rest, without}
+use Rattle.rules.specs.Machine.{Process, Waiter, Machine, at, line, family, family-of, newborn}
+use Rattle.rules.specs.Answers.{Outcome, mask}
+use Rattle.rules.specs.Rules.{full, value, sub-device}
+use Rattle.ledger.specs.Kills.{passed-up, target}
+
+pub data Move : Type 0 where
+  -- nobody moves
+  none : Move
+  -- whoever runs goes to the end of the ready line
+  steps-back : Move
+  -- whoever runs goes to the end of a waiting line
+  joins : Line → Move
+  -- the first of a waiting line, or nobody where it is empty, goes to the end of the ready line
+  first-wakes : Line → Move
+  -- all of a waiting line go to the end of the ready line, first come first
+  all-wake : Line → Move
+  -- a newborn of whoever runs, with a priority and a support handle, stands at the end of the ready line
+  is-born : ℕ → ℕ → Move
+  -- one and its descendants are nowhere
+  ends : ℕ → Move
+
+-- ── Which event moves whom ──
+
+-- the calls −1 to −10 that are carried out, in order (−2: see `target`)
+abbrev pub call-moves : ℕ → ℕ → ℕ → Machine → List Move
+call-moves a1 a2 a3 m =
+    (if full m then none else is-born a2 a3)
+    ∷ none
+    ∷ (if eqb (value a1 m) 0 then joins (Semaphore a1) else none)
+    ∷ first-wakes (Semaphore a1)
+    ∷ joins (Device a1)
+    ∷ none
+    ∷ joins PseudoClock
+    ∷ none
+    ∷ none
+    ∷ steps-back
+    ∷ []
+
+abbrev pub carried-out : Event → Machine → Move
+carried-out (Call now mode (pos n) a1 a2 a3) m = none
+carried-out (Call now mode (negsuc k) a1 a2 a3) m = getD (call-moves a1 a2 a3 m) k none
+carried-out (Interrupt now n x y) m =
+    if eqb n 1 then steps-back else (if eqb n 2 then all-wake PseudoClock else first-wakes (Device (sub-device n x y)))
+carried-out (Exception now code) m = none
+
+abbrev pub move : Event → Machine → Move
+move e m = first (target e m) (if passed-up e m then none else carried-out e m) ends
+
+-- ── Where everybody is then ──
+
+-- whoever keeps running, the ready line, and all who wait, before anybody is chosen to run
+pub record Lists : Type 0 where
+  pub on : List Process
+  pub ready : List Process
+  pub waiting : List Waiter
+
+abbrev pub moved : Move → Machine → Lists
+moved none m = record { on = m .running; ready = m .ready; waiting = m .waiting }
+moved steps-back m = record { on = []; ready = m .ready ++ m .running; waiting = m .waiting }
+moved (joins l) m = record { on = []; ready = m .ready; waiting = m .waiting ++ map (λ p. record { process = p; line = l }) (m .running) }
+moved (first-wakes l) m = record { on = m .running; ready = m .ready ++ front (line l m); waiting = without (at l) (m .waiting) }
+moved (all-wake l) m = record { on = m .running; ready = m .ready ++ line l m; waiting = those (λ w. not (at l w)) (m .waiting) }
+moved (is-born priority handle) m = record { on = m .running; ready = m .ready ++ map (λ p. newborn p priority handle m) (m .running); waiting = m .waiting }
+moved (ends n) m = record {
+  on = those (λ p. not (family n p)) (m .running);
+  ready = those (λ p. not (family n p)) (m .ready);
+  waiting = those (λ w. not (family n (w .process))) (m .waiting);
+}
+
+-- "a 64-bit mask of slots woken"
+abbrev pub woken : Move → Machine → List Process
+woken none m = []
+woken steps-back m = []
+woken (joins l) m = []
+woken (first-wakes l) m = front (line l m)
+woken (all-wake l) m = line l m
+woken (is-born priority handle) m = []
+woken (ends n) m = []
+
+-- "and one of slots ended"
+abbrev pub ended : Move → Machine → List Process
+ended none m = []
+ended steps-back m = []
+ended (joins l) m = []
+ended (first-wakes l) m = []
+ended (all-wake l) m = []
+ended (is-born priority handle) m = []
+ended (ends n) m = family-of n m
+
+-- whoever keeps running, and the ready line behind: the first of these runs
+abbrev pub queue : Move → Machine → List Process
+queue v m = moved v m .on ++ moved v m .ready
+
+-- from the machine m, its gap charged, by the move v, to the outcome o
+pub record Moved (v : Move) (m : Machine) (o : Outcome) : Type 0 where
+  pub runs : o .after .running ≡ front (queue v m)
+  pub ready : o .after .ready ≡ rest (queue v m)
+  pub waiting : o .after .waiting ≡ moved v m .waiting
+  pub woken-mask : o .answer .woken ≡ mask (woken v m)
+  pub ended-mask : o .answer .ended ≡ mask (ended v m)
