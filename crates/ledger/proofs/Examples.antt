@@ -3,12 +3,9 @@
 use mathlib.Core.Path.{_≡_, refl}
 use mathlib.Core.List.{List, [], _∷_, _++_, map}
 use Prim.Native.Nat.{ℕ}
-use lib.IntN.{pos}
-use lib.ListN.{length, replicate}
-use Rattle.rules.specs.declared.Mode.the-variants.{Kernel}
+use lib.ListN.{replicate}
 use Rattle.rules.specs.declared.Event.{Event}
-use Rattle.rules.specs.declared.Event.the-variants.{Call, Interrupt, Exception}
-use Rattle.rules.specs.declared.Answer.{Answer}
+use Rattle.rules.specs.declared.Event.the-variants.{Interrupt, Exception}
 use Rattle.rules.specs.Words.{if_then_else_, those}
 use Rattle.rules.specs.Machine.{Machine, living, charge}
 use Rattle.rules.specs.Answers.{mask}

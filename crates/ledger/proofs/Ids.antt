@@ -1,13 +1,12 @@
 -- Why ids issued are those ended and those alive, one by one, and why none is used again.
-use mathlib.Core.Path.{_≡_, refl, sym, _∙_, ap, subst}
+use mathlib.Core.Path.{_≡_, refl, sym, _∙_, ap}
 use mathlib.Core.Bool.{Bool, true, false}
 use mathlib.Core.List.{List, [], _∷_, _++_, map}
 use Prim.Native.Nat.{ℕ, zero, suc, _+_, _^_, _≤_, _<_}
 use native.Mathlib.Omega.{arith}
 use lib.Dec.{eqb, ltb}
-use lib.IntN.{pos}
 use lib.ListN.{length}
-use borrow.Author.Tests.{ltb-true, lt-ltb, eqb-true, eq-eqb, ne-eqb}
+use borrow.Author.Tests.{ltb-true, lt-ltb, eqb-true, ne-eqb}
 use Rattle.rules.specs.declared.Event.{Event}
 use Rattle.rules.specs.declared.Part.{Part}
 use Rattle.rules.specs.declared.Part.the-variants.{Absent, Number}
@@ -16,7 +15,7 @@ use Rattle.rules.specs.declared.Answer.{Answer}
 use Rattle.rules.specs.Words.{those, sum, count, many}
 use Rattle.rules.specs.Sums.{sum-over, sum-append}
 use Rattle.rules.specs.Cases.{Single, All, All-each, All-those}
-use Rattle.rules.specs.Machine.{Process, Machine, Status, living, with-sem, with-status, family, family-of, kill, birth, charge, fresh}
+use Rattle.rules.specs.Machine.{Process, Machine, Status, living, with-sem, with-status, family, family-of, kill, birth, charge}
 use Rattle.rules.specs.Living.{sum-killed, sum-born, sum-charged-same, each-charged, status-living}
 use Rattle.rules.specs.Answers.{Outcome, plain, mask}
 use Rattle.rules.specs.Rules
@@ -24,17 +23,13 @@ use Rattle.rules.specs.Rules.{step, run, answers}
 use Rattle.rules.specs.Walk.{Kept, perform-keeps, step-keeps, charge-single}
 use Rattle.rules.specs.Sound.{Sound, Settled, with-id, sound-charged, settled, single-after}
 use Rattle.rules.specs.Laws.{accepts, sized}
-use Rattle.ledger.specs.History.{Birth, Past, holder, newborn-ids, issuing, slots-in, ended-slots, ended-ids, onward, tally, gather}
+use Rattle.ledger.specs.History.{mask-bits, Birth, Past, holder, newborn-ids, issuing, slots-in, ended-slots, ended-ids, onward, tally, gather}
 use Rattle.ledger.specs.Ids.{counting, Newborn-told}
 use Rattle.ledger.proofs.Verdicts.{by-verdict}
-use Rattle.ledger.proofs.Masks.{length-sum, sum-slots, no-slots}
+use Rattle.ledger.proofs.Lists.{length-sum, sum-same}
+use Rattle.ledger.proofs.Masks.{sum-slots, no-slots}
 use Rattle.ledger.proofs.Births.{Known, Linked, linked}
 use Rattle.ledger.proofs.Newborns.{newborn-told}
-
--- the same number from each
-pub sum-same {ℓ} : {A : Type ℓ} (f g : A → ℕ) (xs : List A) → All (λ x. f x ≡ g x) xs → sum f xs ≡ sum g xs
-sum-same f g [] h = refl
-sum-same f g (x ∷ xs) h = omega (arith, h .0, sum-same f g xs (h .1))
 
 -- ── The slots of a family's mask tell the family's ids ──
 
@@ -42,21 +37,21 @@ module _ (f : ℕ → ℕ) (bs : List Birth) where
   by-id : Process → ℕ
   by-id p = f (p .id)
 
-  family-told : (n : ℕ) (m : Machine) → m .slots ≤ 64 → Sound m → All (Known bs) (living m)
-      → sum f (map (λ s. holder s bs) (slots-in 64 (mask (family-of n m)))) ≡ sum by-id (family-of n m)
+  family-told : (n : ℕ) (m : Machine) → m .slots ≤ mask-bits → Sound m → All (Known bs) (living m)
+      → sum f (map (λ s. holder s bs) (slots-in mask-bits (mask (family-of n m)))) ≡ sum by-id (family-of n m)
   unfolding mask by-id family-of
   family-told n m few h k =
       let ps : List Process = those (family n) (living m) in
       let ss : List ℕ = map (λ p. p .slot) ps in
       let g : ℕ → ℕ = λ s. f (holder s bs) in
       let told : sum (λ p. g (p .slot)) ps ≡ sum (λ p. f (p .id)) ps = sum-same (λ p. g (p .slot)) (λ p. f (p .id)) ps (All-each (Known bs) _ (λ p e. ap f (e .0)) ps (All-those (Known bs) (family n) (living m) k)) in
-      sum-over f (λ s. holder s bs) (slots-in 64 (sum (λ p. 2 ^ p .slot) ps))
-      ∙ ap (λ (x : ℕ). sum g (slots-in 64 x)) (sym (sum-over (λ (s : ℕ). 2 ^ s) (λ p. p .slot) ps))
-      ∙ sum-slots 64 g ss (λ s. omega (arith, sum-over (λ (k : ℕ). count (eqb s k)) (λ p. p .slot) ps, sum-killed (λ p. count (eqb s (p .slot))) n m, h .slots s, wider s (ltb s (m .slots)) refl))
+      sum-over f (λ s. holder s bs) (slots-in mask-bits (sum (λ p. 2 ^ p .slot) ps))
+      ∙ ap (λ (x : ℕ). sum g (slots-in mask-bits x)) (sym (sum-over (λ (s : ℕ). 2 ^ s) (λ p. p .slot) ps))
+      ∙ sum-slots mask-bits g ss (λ s. omega (arith, sum-over (λ (k : ℕ). count (eqb s k)) (λ p. p .slot) ps, sum-killed (λ p. count (eqb s (p .slot))) n m, h .slots s, wider s (ltb s (m .slots)) refl))
       ∙ sum-over g (λ p. p .slot) ps ∙ told
     where
-      wider : (s : ℕ) (b : Bool) → ltb s (m .slots) ≡ b → count b ≤ count (ltb s 64)
-      wider s true e = let k = ltb-true s (m .slots) e in rw (lt-ltb s 64 (omega arith)) (omega arith)
+      wider : (s : ℕ) (b : Bool) → ltb s (m .slots) ≡ b → count b ≤ count (ltb s mask-bits)
+      wider s true e = let k = ltb-true s (m .slots) e in rw (lt-ltb s mask-bits (omega arith)) (omega arith)
       wider s false e = omega arith
 
 -- ── One event: who was alive and who is born are those who end and those who are alive then ──
@@ -68,10 +63,10 @@ given (Number s) n = n ∷ []
 
 module _ (f : ℕ → ℕ) (bs : List Birth) (a n : ℕ) where
   B : Machine → Type 0
-  B m = Sound m × All (Known bs) (living m) × (m .slots ≤ 64) × (sum (by-id f bs) (living m) ≡ a) × (m .next ≡ n)
+  B m = Sound m × All (Known bs) (living m) × (m .slots ≤ mask-bits) × (sum (by-id f bs) (living m) ≡ a) × (m .next ≡ n)
 
   pub record Counted (x : Answer) (m : Machine) : Type 0 where
-    pub living-now : sum (λ p. f (p .id)) (living m) + sum f (map (λ s. holder s bs) (slots-in 64 (x .ended))) ≡ a + sum f (given (x .newborn) n)
+    pub living-now : sum (λ p. f (p .id)) (living m) + sum f (map (λ s. holder s bs) (slots-in mask-bits (x .ended))) ≡ a + sum f (given (x .newborn) n)
     pub next-now : m .next ≡ n + length (given (x .newborn) n)
 
   begins : (m : Machine) → B m → Counted plain m
@@ -102,7 +97,7 @@ given-told : (m : Machine) (p : Part) (r : Result) → Newborn-told p r m → is
 given-told m Absent r h = refl
 given-told m (Number s) r h = rw (h .id-told)
 
-module _ (f : ℕ → ℕ) (h : Past) (m : Machine) (e : Event) (s : Settled m) (few : m .slots ≤ 64) (k : Linked h m) where
+module _ (f : ℕ → ℕ) (h : Past) (m : Machine) (e : Event) (s : Settled m) (few : m .slots ≤ mask-bits) (k : Linked h m) where
   accepted-counted : Rules.refusal m e ≡ 0 → Counted f (h .births) (sum (λ p. f (p .id)) (living m)) (m .next) (step m e .answer) (step m e .after)
   unfolding charge by-id B
   accepted-counted ok =
@@ -135,7 +130,7 @@ abbrev born : Past → Event → Answer → List ℕ
 born h e a = newborn-ids a
 
 -- whatever f counts of the ids alive, ended and issued
-pub balance : (f : ℕ → ℕ) (es : List Event) (h : Past) (m : Machine) → Settled m → m .slots ≤ 64 → Linked h m
+pub balance : (f : ℕ → ℕ) (es : List Event) (h : Past) (m : Machine) → Settled m → m .slots ≤ mask-bits → Linked h m
     → sum (λ p. f (p .id)) (living (run m es)) + sum f (gather ended-ids h es (answers m es)) ≡ sum (λ p. f (p .id)) (living m) + sum f (gather born h es (answers m es))
 unfolding run answers
 balance f [] h m s few k = refl
@@ -166,7 +161,7 @@ ended-tally (e ∷ es) h (r ∷ rs) =
     )
 
 -- the ids issued are the next ones, in order
-pub numbered : (es : List Event) (h : Past) (m : Machine) → Settled m → m .slots ≤ 64 → Linked h m
+pub numbered : (es : List Event) (h : Past) (m : Machine) → Settled m → m .slots ≤ mask-bits → Linked h m
     → (gather born h es (answers m es) ≡ counting (m .next) (length (gather born h es (answers m es)))) × (run m es .next ≡ m .next + length (gather born h es (answers m es)))
 unfolding run answers
 numbered [] h m s few k = (refl, omega arith)

@@ -2,18 +2,14 @@
 use mathlib.Core.Path.{_≡_, refl, sym, _∙_, ap, ap₂, subst}
 use mathlib.Core.Bool.{Bool, true, false, not, _||_}
 use mathlib.Core.List.{List, [], _∷_, _++_, map}
-use Prim.Native.Nat.{ℕ, suc, _+_, _≤_, _<_, _^_}
-use native.Mathlib.Omega.{arith}
-use lib.Dec.{eqb, leb}
+use Prim.Native.Nat.{ℕ, suc, _≤_, _<_, _^_}
+use lib.Dec.{eqb}
 use lib.IntN.{pos, negsuc}
-use lib.ListN.{getD}
 use borrow.Author.Tests.{le-leb}
-use Rattle.rules.specs.declared.Mode.{Mode}
 use Rattle.rules.specs.declared.Mode.the-variants.{User, Kernel}
 use Rattle.rules.specs.declared.Event.{Event}
 use Rattle.rules.specs.declared.Event.the-variants.{Call, Interrupt, Exception}
-use Rattle.rules.specs.declared.Line.{Line}
-use Rattle.rules.specs.Words.{if_then_else_, first, those, any, among, front, rest, sum, count, many}
+use Rattle.rules.specs.Words.{if_then_else_, first, those, among}
 use Rattle.rules.specs.Cases.{if-cases, Single, All, All-append, All-under, All-both, All-each, getD-cases}
 use Rattle.rules.specs.Lines.{those-append, those-those}
 use Rattle.rules.specs.Machine.{Process, Waiter, Machine, living, at, line, family, family-of, charge}
@@ -26,9 +22,11 @@ use Rattle.rules.specs.Kin.{Kin, ancestors-alive}
 use Rattle.ledger.specs.History.{Birth, Past, chain}
 use Rattle.ledger.specs.Places.{alive}
 use Rattle.ledger.specs.Kills.{passed-up, terminates, target-by, target, doomed, Others-live, Kills, Ancestors-alive}
-use Rattle.ledger.specs.Moves.{Move, none, steps-back, joins, first-wakes, all-wake, is-born, ends, call-moves, carried-out, move, ended, Moved}
+use Rattle.ledger.specs.Moves.{Move, none, steps-back, joins, first-wakes, all-wake, is-born, ends, call-moves, carried-out, ended, Moved}
 use Rattle.ledger.proofs.Births.{Known, Linked}
-use Rattle.ledger.proofs.Moves.{any-many, moves-hold}
+use Rattle.ledger.proofs.Lists.{front-rest, part-sum, any-many, those-alike, single-those}
+use Rattle.ledger.proofs.Moves.{moves-hold}
+use Rattle.ledger.proofs.Spared.{spares, lives-on}
 
 -- ── The target is nobody or one ──
 
@@ -38,10 +36,6 @@ one-name (Call k Kernel (pos n) a1 a2 a3) p = tt
 one-name (Call k Kernel (negsuc n) a1 a2 a3) p = if-cases Single (eqb (suc n) 2) (λ _. refl) (λ _. tt)
 one-name (Interrupt k n x y) p = tt
 one-name (Exception k code) p = tt
-
-single-those : (t : ℕ → Bool) (ns : List ℕ) → Single ns → Single (those t ns)
-single-those t [] h = tt
-single-those t (n ∷ ns) h = rw h (if-cases Single (t n) (λ _. refl) (λ _. tt))
 
 one-target : (e : Event) (m : Machine) → Single (target e m)
 one-target e m = go (m .running)
@@ -53,31 +47,46 @@ one-target e m = go (m .running)
     go [] = tt
     go (p ∷ ps) = by p
 
--- what is carried out otherwise ends nobody
-abbrev Ends-nobody : Machine → Move → Type 0
-Ends-nobody k v = ended v k ≡ []
+-- a move that ends nobody
+abbrev Quiet : Move → Type 0
+Quiet none = Unit {0}
+Quiet steps-back = Unit {0}
+Quiet (joins l) = Unit {0}
+Quiet (first-wakes l) = Unit {0}
+Quiet (all-wake l) = Unit {0}
+Quiet (is-born a2 a3) = Unit {0}
+Quiet (ends n) = ⊥
 
-out-quiet : (e : Event) (m k : Machine) → Ends-nobody k (carried-out e m)
-out-quiet (Call now mode (pos n) a1 a2 a3) m k = refl
-out-quiet (Call now mode (negsuc n) a1 a2 a3) m k =
-    getD-cases (Ends-nobody k) (call-moves a1 a2 a3 m) (
-      if-cases (Ends-nobody k) (Rules.full m) (λ _. refl) (λ _. refl),
-      (refl, (if-cases (Ends-nobody k) (eqb (Rules.value a1 m) 0) (λ _. refl) (λ _. refl), (refl, (refl, (refl, (refl, (refl, (refl, (refl, tt))))))))),
-    ) refl n
-out-quiet (Interrupt now n x y) m k =
-    if-cases (Ends-nobody k) (eqb n 1) (λ _. refl) (λ _. if-cases (Ends-nobody k) (eqb n 2) (λ _. refl) (λ _. refl))
-out-quiet (Exception now code) m k = refl
+quiet-ends : (v : Move) (m : Machine) → Quiet v → ended v m ≡ []
+quiet-ends none m h = refl
+quiet-ends steps-back m h = refl
+quiet-ends (joins l) m h = refl
+quiet-ends (first-wakes l) m h = refl
+quiet-ends (all-wake l) m h = refl
+quiet-ends (is-born a2 a3) m h = refl
+quiet-ends (ends n) m h = absurd h
+
+quiet-spares : (v : Move) (p : Process) → Quiet v → spares v p ≡ true
+quiet-spares none p h = refl
+quiet-spares steps-back p h = refl
+quiet-spares (joins l) p h = refl
+quiet-spares (first-wakes l) p h = refl
+quiet-spares (all-wake l) p h = refl
+quiet-spares (is-born a2 a3) p h = refl
+quiet-spares (ends n) p h = absurd h
+
+-- what is carried out otherwise
+out-quiet : (e : Event) (m : Machine) → Quiet (carried-out e m)
+out-quiet (Call now mode (pos n) a1 a2 a3) m = tt
+out-quiet (Call now mode (negsuc n) a1 a2 a3) m =
+    getD-cases Quiet (call-moves a1 a2 a3 m) (
+      if-cases Quiet (Rules.full m) (λ _. tt) (λ _. tt),
+      (tt, (if-cases Quiet (eqb (Rules.value a1 m) 0) (λ _. tt) (λ _. tt), (tt, (tt, (tt, (tt, (tt, (tt, (tt, tt))))))))),
+    ) tt n
+out-quiet (Interrupt now n x y) m = if-cases Quiet (eqb n 1) (λ _. tt) (λ _. if-cases Quiet (eqb n 2) (λ _. tt) (λ _. tt))
+out-quiet (Exception now code) m = tt
 
 -- ── Who ends, by birth ──
-
-part-sum : (t : Process → Bool) (f : Process → ℕ) (ps : List Process) → sum f (those t ps) ≡ sum (λ p. if t p then f p else 0) ps
-part-sum t f [] = refl
-part-sum t f (p ∷ ps) = go (t p) (part-sum t f ps)
-  where
-    go : (b : Bool) → sum f (those t ps) ≡ sum (λ p. if t p then f p else 0) ps
-        → sum f (if b then p ∷ those t ps else those t ps) ≡ (if b then f p else 0) + sum (λ p. if t p then f p else 0) ps
-    go true ih = omega (arith, ih)
-    go false ih = omega (arith, ih)
 
 -- the charge changes nobody's slot or ancestors: the mask of a family is the same before it
 mask-charged : (n now : ℕ) (m : Machine) → mask (family-of n (charge now m)) ≡ mask (family-of n m)
@@ -99,14 +108,6 @@ or-false false = refl
 doomed-is : (bs : List Birth) (n : ℕ) (p : Process) → Known bs p → doomed bs (n ∷ []) p ≡ family n p
 unfolding family
 doomed-is bs n p k = or-false (among n (p .id ∷ chain (p .id) bs)) ∙ ap (λ (ns : List ℕ). among n (p .id ∷ ns)) (k .1)
-
-those-alike {ℓ} : {A : Type ℓ} (t u : A → Bool) (xs : List A) → All (λ x. t x ≡ u x) xs → those t xs ≡ those u xs
-those-alike t u [] h = refl
-those-alike t u (x ∷ xs) h = rw (h .0, those-alike t u xs (h .1))
-
-front-rest : (ps : List Process) → front ps ++ rest ps ≡ ps
-front-rest [] = refl
-front-rest (p ∷ ps) = refl
 
 -- from m, whose births are known, by the end of n and its family, to the outcome o
 module _ (bs : List Birth) (n : ℕ) (m : Machine) (k : All (Known bs) (living m)) where
@@ -139,29 +140,35 @@ module _ (h : Past) (m : Machine) (e : Event) (one : Single (m .running)) (k : L
   known : All (Known (h .births)) (living m₁)
   known = each-charged (Known (h .births)) (λ g p k. k) (Rules.clock e) m (k .told .known)
 
-  none-ends : (v : Move) → ended v m₁ ≡ [] → Moved v m₁ (step m e) → step m e .answer .ended ≡ mask (those (doomed (h .births) []) (living m))
-  none-ends v q w = w .ended-mask ∙ ap mask (q ∙ sym (nobody-doomed (h .births) (living m)))
-
   one-ends : (n : ℕ) → Moved (ends n) m₁ (step m e) → step m e .answer .ended ≡ mask (those (doomed (h .births) (n ∷ [])) (living m))
   unfolding family-of
   one-ends n w =
       w .ended-mask ∙ mask-charged n (Rules.clock e) m
       ∙ ap mask (those-alike _ _ (living m) (All-each (Known (h .births)) (λ p. family n p ≡ doomed (h .births) (n ∷ []) p) (λ p q. sym (doomed-is (h .births) n p q)) (living m) (k .told .known)))
 
+  nobody-dies : (v : Move) → Quiet v → target e m ≡ [] → Moved v m₁ (step m e) → Kills (h .births) m e
+  nobody-dies v q t w = record {
+    ended-mask = rw t (w .ended-mask ∙ ap mask (quiet-ends v m₁ q ∙ sym (nobody-doomed (h .births) (living m))));
+    lives-on = All-each _ _ (λ p l _. l (quiet-spares v p q)) (living m₁) (lives-on m₁ v (step m e) w);
+    others = rw t tt;
+  }
+
+  one-dies : (n : ℕ) → target e m ≡ n ∷ [] → Moved (ends n) m₁ (step m e) → Kills (h .births) m e
+  one-dies n t w = record {
+    ended-mask = rw t (one-ends n w);
+    lives-on = rw t (All-both _ _ _ (λ p k l d. l (ap not (sym (doomed-is (h .births) n p k) ∙ d))) (living m₁) known (lives-on m₁ (ends n) (step m e) w));
+    others = rw t (others-live (h .births) n m₁ known (step m e) w);
+  }
+
   pub kills-hold : Kills (h .births) m e
   kills-hold = go (target e m) refl (one-target e m)
     where
-      quiet : ended (if passed-up e m then none else carried-out e m) m₁ ≡ []
-      quiet = if-cases (λ (v : Move). ended v m₁ ≡ []) (passed-up e m) (λ _. refl) (λ _. out-quiet e m m₁)
+      as-told : (ns : List ℕ) → target e m ≡ ns → Moved (first ns (if passed-up e m then none else carried-out e m) ends) m₁ (step m e)
+      as-told ns t = subst (λ (ns : List ℕ). Moved (first ns (if passed-up e m then none else carried-out e m) ends) m₁ (step m e)) t (moves-hold m e one ok)
 
       go : (ns : List ℕ) → target e m ≡ ns → Single ns → Kills (h .births) m e
-      go [] t s =
-          let w : Moved (if passed-up e m then none else carried-out e m) m₁ (step m e) = subst (λ (ns : List ℕ). Moved (first ns (if passed-up e m then none else carried-out e m) ends) m₁ (step m e)) t (moves-hold m e one ok) in
-          record { ended-mask = rw t (none-ends _ quiet w); others = rw t tt }
-      go (n ∷ ns) t s =
-          let t′ : target e m ≡ n ∷ [] = t ∙ ap (λ (l : List ℕ). n ∷ l) s in
-          let w : Moved (ends n) m₁ (step m e) = subst (λ (ns : List ℕ). Moved (first ns (if passed-up e m then none else carried-out e m) ends) m₁ (step m e)) t′ (moves-hold m e one ok) in
-          record { ended-mask = rw t′ (one-ends n w); others = rw t′ (others-live (h .births) n m₁ known (step m e) w) }
+      go [] t s = nobody-dies (if passed-up e m then none else carried-out e m) (if-cases Quiet (passed-up e m) (λ _. tt) (λ _. out-quiet e m)) t (as-told [] t)
+      go (n ∷ ns) t s = let t′ : target e m ≡ n ∷ [] = t ∙ ap (λ (l : List ℕ). n ∷ l) s in one-dies n t′ (as-told (n ∷ []) t′)
 
 -- ── Every ancestor of the living is alive ──
 

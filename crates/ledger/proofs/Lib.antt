@@ -1,3 +1,8 @@
+-- Why. Promises has the theorems; Examples works the definitions out on stories.
+pub mod Promises
+pub mod Examples
+-- What they are proved by:
+pub mod Lists
 pub mod Verdicts
 pub mod Scheduling
 pub mod Masks
@@ -8,13 +13,13 @@ pub mod Semaphores
 pub mod Times
 pub mod Shares
 pub mod Moves
-pub mod Kills
 pub mod Lines
 pub mod Ahead
+pub mod Spared
+pub mod Kills
 pub mod Order
 pub mod Places
 pub mod Refusals
 pub mod Starts
 pub mod Ranges
-pub mod Promises
-pub mod Examples
+pub mod After

@@ -1,13 +1,13 @@
 -- Why an accepted event moves just whom `move` says, and the first in the ready line then runs where nobody does.
 use mathlib.Core.Path.{_≡_, refl, sym, _∙_, ap, ap₂, subst}
-use mathlib.Core.Bool.{Bool, true, false, not, _&&_, _||_, true≢false}
+use mathlib.Core.Bool.{Bool, true, false, _&&_, _||_, true≢false}
 use mathlib.Core.List.{List, [], _∷_, _++_, map, append-nil}
-use Prim.Native.Nat.{ℕ, zero, suc, _+_, _-_, _≤_}
-use native.Mathlib.Nat.{add-zero, zero-add, add-suc, suc-add}
+use Prim.Native.Nat.{ℕ, suc, _+_, _-_}
+use native.Mathlib.Nat.{zero-add}
 use native.Mathlib.Omega.{arith}
 use lib.Dec.{eqb, leb, ltb}
 use lib.IntN.{ℤ, pos, negsuc}
-use lib.ListN.{length, getD}
+use lib.ListN.{getD}
 use borrow.Author.Tests.{eqb-true, eq-eqb, lt-ltb, ltb-true, ltb-false, lt-leb, le-leb}
 use Rattle.rules.specs.declared.Mode.{Mode}
 use Rattle.rules.specs.declared.Mode.the-variants.{User, Kernel}
@@ -20,7 +20,7 @@ use Rattle.rules.specs.declared.Cause.the-variants.{Tlb, General}
 use Rattle.rules.specs.declared.Action.{Action}
 use Rattle.rules.specs.declared.Action.the-variants.{PassUp}
 use Rattle.rules.specs.declared.Answer.{Answer}
-use Rattle.rules.specs.Words.{if_then_else_, first, those, any, front, rest, without, count, many}
+use Rattle.rules.specs.Words.{if_then_else_, first, those, any, front, rest, without, count}
 use Rattle.rules.specs.Numbers.{top, sub-devices}
 use Rattle.rules.specs.Cases.{if-cases, first-cases, Single, single-cases, getD-past}
 use Rattle.rules.specs.Machine.{Process, Waiter, Machine, with-sem, living, nucleus-waits, at, line, back, block, dispatch, wake, wake-all, named, family, family-of, kill, lowest-free, newborn, birth, longer, gap, charge}
@@ -31,9 +31,9 @@ use Rattle.rules.specs.Rules.{Service, act, step}
 use Rattle.rules.specs.Walk.{charge-single, kill-none, kill-other}
 use Rattle.rules.specs.Laws.{accepts, passed}
 use Rattle.ledger.specs.Places.{alive}
-use Rattle.ledger.proofs.Masks.{length-sum}
-use Rattle.ledger.specs.Kills.{bad-call, passed-up, terminates, target-by, target}
-use Rattle.ledger.specs.Moves.{Move, none, steps-back, joins, first-wakes, all-wake, is-born, ends, call-moves, carried-out, move, Lists, moved, woken, ended, queue, Moved}
+use Rattle.ledger.proofs.Lists.{no-one, everyone, length-sum, any-many, those-alike, nobody-passes, somebody-passes}
+use Rattle.ledger.specs.Kills.{passed-up, terminates, target-by, target}
+use Rattle.ledger.specs.Moves.{Move, none, steps-back, joins, first-wakes, all-wake, is-born, ends, call-moves, carried-out, move, moved, woken, ended, Moved}
 
 -- ── Whoever runs goes on, or the first in the ready line runs: from the machine k, with the answer so far x ──
 
@@ -86,7 +86,7 @@ none-gone t [] e = refl
 none-gone t (w ∷ ws) e = go (t w) e (none-gone t ws)
   where
     go : (b : Bool) → map (λ w. w .process) (if b then w ∷ those t ws else those t ws) ≡ [] → (map (λ w. w .process) (those t ws) ≡ [] → without t ws ≡ ws) → (if b then ws else w ∷ without t ws) ≡ w ∷ ws
-    go true e ih = let z : _≡_ {A = ℕ} 0 1 = cc in absurd (omega arith)
+    go true e ih = absurd (no-one (w .process) (map (λ w. w .process) (those t ws)) e)
     go false e ih = ap (λ (vs : List Waiter). w ∷ vs) (ih e)
 
 nobody-wakes : (l : Line) (m : Machine) (o : Outcome) → line l m ≡ [] → Moved none m o → Moved (first-wakes l) m o
@@ -147,23 +147,6 @@ create now p a1 a2 a3 m r = go (Rules.full m)
     go false =
         as-move (is-born a2 a3) m x (birth p a2 a3 m) _ refl (ap (λ (rs : List Process). m .ready ++ map (λ q. newborn q a2 a3 m) rs) (sym r)) refl no-mask no-mask
         (goes-on x p _ (birth p a2 a3 m) r)
-
-module _ (t : Process → Bool) where
-  nobody-passes : (ps : List Process) → those t ps ≡ [] → any t ps ≡ false
-  nobody-passes [] e = refl
-  nobody-passes (p ∷ ps) e = go (t p) e (nobody-passes ps)
-    where
-      go : (b : Bool) → (if b then p ∷ those t ps else those t ps) ≡ [] → (those t ps ≡ [] → any t ps ≡ false) → b || any t ps ≡ false
-      go true e ih = let z : _≡_ {A = ℕ} 0 1 = cc in absurd (omega arith)
-      go false e ih = ih e
-
-  somebody-passes : (ps : List Process) (q : Process) (qs : List Process) → those t ps ≡ q ∷ qs → (any t ps ≡ true) × (t q ≡ true)
-  somebody-passes [] q qs e = let z : _≡_ {A = ℕ} 0 1 = cc in absurd (omega arith)
-  somebody-passes (p ∷ ps) q qs e = go (t p) refl e (somebody-passes ps q qs)
-    where
-      go : (b : Bool) → t p ≡ b → (if b then p ∷ those t ps else those t ps) ≡ q ∷ qs → (those t ps ≡ q ∷ qs → (any t ps ≡ true) × (t q ≡ true)) → (b || any t ps ≡ true) × (t q ≡ true)
-      go true f e ih = let z : p ≡ q = cc in (refl, rw z at f)
-      go false f e ih = ih e
 
 terminate : Serves 1 Rules.terminate
 unfolding Rules.terminate Rules.carry-on named kill
@@ -322,18 +305,6 @@ performed (Exception now code) m s k =
 
 -- ── The charge before it changes nothing that the move depends on ──
 
-pub any-many {ℓ} : {A : Type ℓ} (t : A → Bool) (xs : List A) → any t xs ≡ leb 1 (many t xs)
-any-many t [] = refl
-any-many t (x ∷ xs) = go (t x) (any-many t xs)
-  where
-    go : (b : Bool) → any t xs ≡ leb 1 (many t xs) → b || any t xs ≡ leb 1 (count b + many t xs)
-    go true ih = sym (le-leb 1 (1 + many t xs) (omega arith))
-    go false ih = ih ∙ ap (leb 1) (sym (zero-add (many t xs)))
-
-those-same {ℓ} : {A : Type ℓ} (t u : A → Bool) → ((x : A) → t x ≡ u x) → (xs : List A) → those t xs ≡ those u xs
-those-same t u h [] = refl
-those-same t u h (x ∷ xs) = rw (h x, those-same t u h xs)
-
 module _ (now : ℕ) (m : Machine) where
   pub alive-charged : (n : ℕ) → alive n (charge now m) ≡ alive n m
   alive-charged n =
@@ -374,7 +345,7 @@ module _ (now : ℕ) (m : Machine) where
   same-name g (Exception k code) p = refl
 
   by-charged : (g : ℕ) (e : Event) (p : Process) → target-by e (charge now m) (longer g p) ≡ target-by e m p
-  by-charged g e p = rw (up-charged e, same-name g e p, those-same (λ n. alive n (charge now m)) (λ n. alive n m) alive-charged (terminates e p)) refl
+  by-charged g e p = rw (up-charged e, same-name g e p, those-alike (λ n. alive n (charge now m)) (λ n. alive n m) (terminates e p) (everyone _ alive-charged (terminates e p))) refl
 
   pub target-charged : (e : Event) → target e (charge now m) ≡ target e m
   unfolding charge

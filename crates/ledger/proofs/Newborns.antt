@@ -1,8 +1,7 @@
 -- Why an answer that names a newborn's slot gives the next id and the lowest free slot.
 use mathlib.Core.Path.{_≡_, refl, sym, _∙_, subst}
-use mathlib.Core.Bool.{false}
 use mathlib.Core.List.{List, map}
-use Prim.Native.Nat.{ℕ, _≤_, _<_}
+use Prim.Native.Nat.{ℕ, _<_}
 use native.Mathlib.Omega.{arith}
 use lib.Dec.{eqb, ltb}
 use Rattle.rules.specs.declared.Event.{Event}
@@ -19,9 +18,9 @@ use Rattle.rules.specs.Free.{lowest-is-least}
 use Rattle.rules.specs.Cases.{Single}
 use Rattle.rules.specs.Machine.{Machine, living, lowest-free, charge}
 use Rattle.rules.specs.Living.{sum-charged-same}
-use Rattle.rules.specs.Answers.{Outcome, plain}
+use Rattle.rules.specs.Answers.{Outcome}
 use Rattle.rules.specs.Rules
-use Rattle.rules.specs.Rules.{full, step}
+use Rattle.rules.specs.Rules.{step}
 use Rattle.rules.specs.Walk
 use Rattle.rules.specs.Walk.{Walk, charge-single}
 use Rattle.rules.specs.Sound.{Sound, Settled, in-slot, sound-charged, free}

@@ -1,20 +1,19 @@
 -- Why nobody overtakes in any line, whatever the events.
 use mathlib.Core.Path.{_≡_, refl, sym, _∙_, ap, ap₂, subst}
-use mathlib.Core.Bool.{Bool, true, false, not, _&&_, _||_, true≢false}
+use mathlib.Core.Bool.{Bool, true, false, not, _||_, true≢false}
 use mathlib.Core.List.{List, [], _∷_, _++_, map, map-append, append-nil, append-assoc}
 use Prim.Native.Nat.{ℕ, zero, suc, _+_, _≤_, _<_}
 use native.Mathlib.Omega.{arith}
 use lib.Dec.{eqb, ltb}
-use borrow.Author.Tests.{eqb-true, eq-eqb, ltb-true}
+use borrow.Author.Tests.{eqb-true, ltb-true}
 use Rattle.rules.specs.declared.Event.{Event}
 use Rattle.rules.specs.declared.Line.{Line}
-use Rattle.rules.specs.declared.Line.the-variants.{Semaphore, Device, PseudoClock}
-use Rattle.rules.specs.Words.{if_then_else_, first, those, any, front, rest, without, sum, count, many}
-use Rattle.rules.specs.Cases.{if-cases, Single, All, All-under, All-over, All-those, and-left, and-right}
-use Rattle.rules.specs.Sums.{sum-over, sum-append, sum-split, sum-front}
+use Rattle.rules.specs.Words.{those, front, rest, without, sum, count, many}
+use Rattle.rules.specs.Cases.{if-cases, Single, and-left, and-right}
+use Rattle.rules.specs.Sums.{sum-append}
 use Rattle.rules.specs.Lines.{count-le, those-append, those-those}
-use Rattle.rules.specs.Machine.{Process, Waiter, Machine, living, same-line, at, line, family, family-of, kill, newborn, birth, charge}
-use Rattle.rules.specs.Living.{process, those-over, living-sum, sum-killed, all-ready, all-waiting}
+use Rattle.rules.specs.Machine.{Process, Waiter, Machine, living, same-line, at, line, family, kill, newborn, birth, charge}
+use Rattle.rules.specs.Living.{process, those-over, living-sum, all-ready}
 use Rattle.rules.specs.Answers.{Outcome}
 use Rattle.rules.specs.Rules
 use Rattle.rules.specs.Rules.{step, run}
@@ -23,8 +22,10 @@ use Rattle.rules.specs.Walk.{step-keeps, charge-single}
 use Rattle.ledger.specs.Places.{Place, Running, Ready, Waiting, who, has, among-them, alive}
 use Rattle.ledger.specs.Moves.{Move, none, steps-back, joins, first-wakes, all-wake, is-born, ends, move, moved, queue, Moved}
 use Rattle.ledger.specs.Order.{ahead, In-order, stands, Nobody-overtakes}
+use Rattle.ledger.proofs.Spared.{spares, few, lists-sum, spared}
+use Rattle.ledger.proofs.Lists.{not-so, everyone, front-rest, all-pass, single-those}
 use Rattle.ledger.proofs.Lines.{same-true, apart, own-first, own-all, other-first, other-all, map-rest, line-all, line-few}
-use Rattle.ledger.proofs.Ahead.{Passes, among-some, some-among, among-left, among-right, among-part, among-those, ahead-those, ahead-left, ahead-join, ahead-right, ahead-rest, among-rest, ahead-first, ahead-second}
+use Rattle.ledger.proofs.Ahead.{Passes, among-some, some-among, among-right, among-part, among-those, ahead-those, ahead-left, ahead-join, ahead-right, ahead-rest, among-rest, ahead-first, ahead-second}
 use Rattle.ledger.proofs.Verdicts.{by-verdict}
 use Rattle.ledger.proofs.Ids.{gone-for-good}
 use Rattle.ledger.proofs.Moves.{moves-hold}
@@ -53,10 +54,6 @@ record Step (m : Machine) (ps ps′ : List Process) : Type 0 where
   lives : (x : ℕ) → alive x m ≡ true → Passes passes x ps
   once : (x : ℕ) → many (has x) (those passes ps ++ joined) ≤ 1
   went : Went cut m ps
-
-not-so : (b : Bool) → (b ≡ true → ⊥) → b ≡ false
-not-so true h = absurd (h refl)
-not-so false h = refl
 
 module _ (m : Machine) (ps ps′ : List Process) (s : Step m ps ps′) (there : (x : ℕ) → among-them x ps′ ≡ true → alive x m ≡ true) (x y : ℕ) where
   abbrev left : List Process
@@ -106,62 +103,6 @@ module _ (m : Machine) (ps ps′ : List Process) (s : Step m ps ps′) (there : 
           let all : sum f (m .running ++ m .ready) ≡ sum f (w .0) + sum f ps = ap (sum f) (w .1) ∙ sum-append f (w .0) ps in
           omega (arith, all, sum-append f (m .running) (m .ready), living-sum f m, g .ids x, count-le (ltb x (m .next))))) h)
 
--- ── Who does not end ──
-
-abbrev spares : Move → Process → Bool
-spares none p = true
-spares steps-back p = true
-spares (joins l) p = true
-spares (first-wakes l) p = true
-spares (all-wake l) p = true
-spares (is-born a2 a3) p = true
-spares (ends n) p = not (family n p)
-
-all-spared : (x : ℕ) (ps : List Process) → All (λ p. has x p ≡ true → true ≡ true) ps
-all-spared x [] = tt
-all-spared x (p ∷ ps) = (λ _. refl, all-spared x ps)
-
--- nobody of the family has the id
-none-of : (u t : Process → Bool) (ps : List Process) → many u (those t ps) ≤ 0 → All (λ p. u p ≡ true → not (t p) ≡ true) ps
-none-of u t [] h = tt
-none-of u t (p ∷ ps) h = go (t p) refl (u p) refl h (none-of u t ps)
-  where
-    go : (b : Bool) → t p ≡ b → (c : Bool) → u p ≡ c → many u (if b then p ∷ those t ps else those t ps) ≤ 0 → (many u (those t ps) ≤ 0 → All (λ p. u p ≡ true → not (t p) ≡ true) ps)
-        → (u p ≡ true → not (t p) ≡ true) × All (λ p. u p ≡ true → not (t p) ≡ true) ps
-    go true e true f h ih = absurd (omega (arith, rw f at h))
-    go true e false f h ih = (λ z. absurd (true≢false (sym z ∙ f)), ih (omega (arith, rw f at h)))
-    go false e c f h ih = (λ _. ap not e, ih h)
-
-few : (m : Machine) → Sound m → (x : ℕ) → with-id x m ≤ 1
-few m g x = omega (arith, g .ids x, count-le (ltb x (m .next)))
-
--- m is the machine with the gap charged, v the move and o the outcome: whoever is counted in the lists after the move is alive after the event
-lists-sum : (m : Machine) (v : Move) (o : Outcome) → Moved v m o → (f : Process → ℕ)
-    → sum f (living (o .after)) ≡ sum f (moved v m .on) + (sum f (moved v m .ready) + sum f (map process (moved v m .waiting)))
-lists-sum m v o w f =
-    omega (
-      arith,
-      living-sum f (o .after),
-      ap (sum f) (w .runs),
-      ap (sum f) (w .ready),
-      ap (λ (ws : List Waiter). sum f (map process ws)) (w .waiting),
-      sum-front f (queue v m),
-      sum-append f (moved v m .on) (moved v m .ready),
-    )
-
-spared : (m : Machine) (v : Move) (o : Outcome) → Moved v m o → Sound m → (x : ℕ) → alive x (o .after) ≡ true → All (λ p. has x p ≡ true → spares v p ≡ true) (living m)
-unfolding kill family-of
-spared m none o w g x h = all-spared x (living m)
-spared m steps-back o w g x h = all-spared x (living m)
-spared m (joins l) o w g x h = all-spared x (living m)
-spared m (first-wakes l) o w g x h = all-spared x (living m)
-spared m (all-wake l) o w g x h = all-spared x (living m)
-spared m (is-born a2 a3) o w g x h = all-spared x (living m)
-spared m (ends n) o w g x h =
-    let f : Process → ℕ = λ p. count (has x p) in
-    none-of (has x) (family n) (living m)
-    (omega (arith, among-some x (living (o .after)) h, lists-sum m (ends n) o w f, living-sum f (kill n m), sum-killed f n m, few m g x))
-
 -- ── The ready line ──
 
 abbrev joining : Move → Machine → List Process
@@ -172,10 +113,6 @@ joining (first-wakes l) m = front (line l m)
 joining (all-wake l) m = line l m
 joining (is-born a2 a3) m = map (λ p. newborn p a2 a3 m) (m .running)
 joining (ends n) m = []
-
-all-pass : (ps : List Process) → those (λ p. true) ps ≡ ps
-all-pass [] = refl
-all-pass (p ∷ ps) = ap (λ (qs : List Process). p ∷ qs) (all-pass ps)
 
 nobody-joins : (ps : List Process) → ps ≡ ps ++ []
 nobody-joins ps = sym (append-nil ps)
@@ -188,10 +125,6 @@ ready-is (first-wakes l) m = ap (λ (ps : List Process). ps ++ front (line l m))
 ready-is (all-wake l) m = ap (λ (ps : List Process). ps ++ line l m) (sym (all-pass (m .ready)))
 ready-is (is-born a2 a3) m = ap (λ (ps : List Process). ps ++ map (λ p. newborn p a2 a3 m) (m .running)) (sym (all-pass (m .ready)))
 ready-is (ends n) m = nobody-joins (those (λ p. not (family n p)) (m .ready))
-
-single-those : (t : Process → Bool) (ps : List Process) → Single ps → Single (those t ps)
-single-those t [] h = tt
-single-those t (p ∷ ps) h = rw h (if-cases Single (t p) (λ _. refl) (λ _. tt))
 
 one-on : (v : Move) (m : Machine) → Single (m .running) → Single (moved v m .on)
 one-on none m h = h
@@ -222,10 +155,6 @@ ready-step m v o w one g g′ =
 
 -- ── The waiting lines ──
 
-front-rest : (ps : List Process) → front ps ++ rest ps ≡ ps
-front-rest [] = refl
-front-rest (p ∷ ps) = refl
-
 line-once : (l : Line) (m : Machine) → Sound m → (x : ℕ) → many (has x) (line l m) ≤ 1
 line-once l m g x = let f : Process → ℕ = λ p. count (has x p) in omega (arith, line-few f l m, living-sum f m, few m g x)
 
@@ -245,11 +174,11 @@ module _ (m : Machine) (o : Outcome) (g : Sound m) (g′ : Sound (o .after)) (l 
   all-stay t qs k e =
       record { passes = t; joined = qs; cut = whole; is = e; lives = k; once = λ x. subst (λ (ps : List Process). many (has x) ps ≤ 1) e (line-once l (o .after) g′ x); went = tt }
 
-  everyone : before ≡ those (λ p. true) before ++ []
-  everyone = sym (append-nil (those (λ p. true) before) ∙ all-pass before)
+  all-there : before ≡ those (λ p. true) before ++ []
+  all-there = sym (append-nil (those (λ p. true) before) ∙ all-pass before)
 
   nobody-moves : after-it ≡ before → Step (o .after) before after-it
-  nobody-moves e = all-stay (λ p. true) [] (λ x h. all-spared x before) (e ∙ everyone)
+  nobody-moves e = all-stay (λ p. true) [] (λ x h. everyone _ (λ p _. refl) before) (e ∙ all-there)
 
   -- the first, or all, leave
   cut-off : (c : Cut) → Went c (o .after) before → after-it ≡ cutting c before → Step (o .after) before after-it
@@ -257,9 +186,9 @@ module _ (m : Machine) (o : Outcome) (g : Sound m) (g′ : Sound (o .after)) (l 
     passes = λ p. true;
     joined = [];
     cut = c;
-    is = e ∙ ap (cutting c) everyone;
-    lives = λ x h. all-spared x before;
-    once = λ x. subst (λ (ps : List Process). many (has x) ps ≤ 1) everyone (line-once l m g x);
+    is = e ∙ ap (cutting c) all-there;
+    lives = λ x h. everyone _ (λ p _. refl) before;
+    once = λ x. subst (λ (ps : List Process). many (has x) ps ≤ 1) all-there (line-once l m g x);
     went = w;
   }
 
@@ -269,7 +198,7 @@ waiting-step m none o w g g′ l = nobody-moves m o g g′ l (ap (at-line l) (w 
 waiting-step m steps-back o w g g′ l = nobody-moves m o g g′ l (ap (at-line l) (w .waiting))
 waiting-step m (joins k) o w g g′ l =
     let ns : List Waiter = map (λ p. record { process = p; line = k }) (m .running) in
-    all-stay m o g g′ l (λ p. true) (at-line l ns) (λ x h. all-spared x (line l m)) (
+    all-stay m o g g′ l (λ p. true) (at-line l ns) (λ x h. everyone _ (λ p _. refl) (line l m)) (
     ap (at-line l) (w .waiting)
     ∙ ap (map process) (those-append (at l) (m .waiting) ns)
     ∙ map-append process (those (at l) (m .waiting)) (those (at l) ns)

@@ -1,20 +1,19 @@
 -- Why everything kept and answered is in range where the words and bytes of the events are.
-use mathlib.Core.Path.{_≡_, refl, sym, _∙_, ap, subst}
-use mathlib.Core.Bool.{Bool, true, false, not, _&&_, _||_, true≢false}
-use mathlib.Core.List.{List, [], _∷_, _++_, map}
+use mathlib.Core.Path.{_≡_, refl, sym, subst}
+use mathlib.Core.Bool.{Bool, true, false, not, _&&_, _||_}
+use mathlib.Core.List.{List, [], _∷_, map}
 use Prim.Native.Nat.{ℕ, zero, suc, _+_, _-_, _*_, _/_, _%_, _^_, _≤_, _<_}
 use native.Mathlib.Nat.{pow-suc}
 use native.Mathlib.Omega.{arith}
 use lib.Dec.{eqb, leb, ltb}
 use lib.IntN.{ℤ, pos, negsuc}
-use lib.ListN.{getD}
 use lib.Pow.{pow-pos}
-use borrow.Author.Tests.{eqb-true, eqb-false, eq-eqb, leb-true, leb-false, ltb-true, ltb-false, le-leb, le-ltb}
+use borrow.Author.Tests.{eqb-false, leb-true, leb-false, ltb-true, ltb-false, le-leb}
 use Rattle.rules.specs.declared.Mode.{Mode}
 use Rattle.rules.specs.declared.Mode.the-variants.{User, Kernel}
 use Rattle.rules.specs.declared.Event.{Event}
 use Rattle.rules.specs.declared.Event.the-variants.{Call, Interrupt, Exception}
-use Rattle.rules.specs.declared.Line.the-variants.{Semaphore, Device, PseudoClock}
+use Rattle.rules.specs.declared.Line.the-variants.{Semaphore, Device}
 use Rattle.rules.specs.declared.Cause.{Cause}
 use Rattle.rules.specs.declared.Cause.the-variants.{Tlb, General}
 use Rattle.rules.specs.declared.Action.{Action}
@@ -23,8 +22,8 @@ use Rattle.rules.specs.declared.Part.{Part}
 use Rattle.rules.specs.declared.Part.the-variants.{Absent, Number}
 use Rattle.rules.specs.declared.Answer.{Answer}
 use Rattle.rules.specs.Words.{if_then_else_, first, those, front, sum, count, many}
-use Rattle.rules.specs.Numbers.{sub-devices}
-use Rattle.rules.specs.Cases.{if-cases, first-cases, Single, All, All-over, All-under, All-append, All-those, All-front, All-rest, All-without, getD-cases}
+use Rattle.rules.specs.Numbers.{time-limit, sub-devices}
+use Rattle.rules.specs.Cases.{if-cases, first-cases, All, All-over, All-under, All-append, All-those, All-front, All-rest, All-without, getD-cases}
 use Rattle.rules.specs.Sums.{sum-over, sum-front}
 use Rattle.rules.specs.Machine.{Process, Waiter, Machine, living, at, line, nucleus-waits, named, family, longer, newborn, gap, charge, fresh}
 use Rattle.rules.specs.Living.{process, living-sum, sum-killed, each-charged, all-living, all-running, all-ready, all-waiting}
@@ -38,7 +37,7 @@ use Rattle.rules.specs.Tables.{Tables, keeps, sound, short}
 use Rattle.ledger.specs.Ids.{Newborn-told}
 use Rattle.ledger.specs.Kills.{passed-up, target}
 use Rattle.ledger.specs.Moves.{Move, none, steps-back, joins, first-wakes, all-wake, is-born, ends, call-moves, carried-out, move, moved, woken, ended, queue, Moved}
-use Rattle.ledger.specs.Ranges.{Well-formed, Ranged, Fits-result, Below, Fits}
+use Rattle.ledger.specs.Ranges.{word, byte, long, Well-formed, Ranged, Fits-result, Below, Fits}
 use Rattle.ledger.proofs.Lines.{line-all, line-few}
 use Rattle.ledger.proofs.Verdicts.{by-verdict}
 use Rattle.ledger.proofs.Births.{answered}
@@ -78,7 +77,7 @@ one-within : (n i : ℕ) → 3 ≤ n → n < 7 → i < 8 → (n - 3) * 8 + i < s
 one-within n i a b c = omega arith
 
 -- a line that is not refused, 3 to 7, serves one of the 48 sub-devices
-module _ (now n x y : ℕ) (ok : bad-line (Interrupt now n x y) ≡ false) (three : 3 ≤ n) (fx : x < 2 ^ 8) (fy : y < 2 ^ 8) where
+module _ (now n x y : ℕ) (ok : bad-line (Interrupt now n x y) ≡ false) (three : 3 ≤ n) (fx : x < byte) (fy : y < byte) where
   seven : n ≤ 7
   unfolding bad-line
   seven = ltb-false 7 n (or-right (ltb n 1) (ltb 7 n) (or-left (ltb n 1 || ltb 7 n) (leb 3 n && eqb x 0 && (ltb n 7 || eqb y 0)) ok))
@@ -87,7 +86,7 @@ module _ (now n x y : ℕ) (ok : bad-line (Interrupt now n x y) ≡ false) (thre
   unfolding bad-line
   bytes = rw (le-leb 3 n three) at (or-right (ltb n 1 || ltb 7 n) (leb 3 n && eqb x 0 && (ltb n 7 || eqb y 0)) ok)
 
-  bit : (b : ℕ) → b < 2 ^ 8 → (b ≡ 0 → ⊥) → lowest-bit 8 b < 8
+  bit : (b : ℕ) → b < byte → (b ≡ 0 → ⊥) → lowest-bit 8 b < 8
   bit b h z = bit-within 8 b (omega arith) h
 
   -- the first byte is not 0, or the line is 7 and the second is not
@@ -138,11 +137,11 @@ resume-neat x m h = first-cases Ends-neat (m .running) (λ _. schedule-neat x m 
 
 -- the caller's numbers, and the next id
 record Caller (p : Process) (m : Machine) : Type 0 where
-  time : p .time < 2 ^ 63
-  handle : p .handle < 2 ^ 63
-  id : p .id < 2 ^ 63
-  parent : first (p .ancestors) 0 (λ n. n) < 2 ^ 63
-  next : m .next < 2 ^ 63
+  time : p .time < long
+  handle : p .handle < long
+  id : p .id < long
+  parent : first (p .ancestors) 0 (λ n. n) < long
+  next : m .next < long
 
 abbrev Says-neat : Service → Type 0
 Says-neat s = (p : Process) (a1 a2 a3 : ℕ) (m : Machine) → Caller p m → Ends-neat (s p a1 a2 a3 m)
@@ -155,7 +154,7 @@ trapped : Says-neat Rules.trapped
 unfolding Rules.trap
 trapped p a1 a2 a3 m c = or-die-neat General p m
 
-giving-neat : (n : ℕ) (x : Answer) → n < 2 ^ 63 → Neat x → Neat (giving (pos n) x)
+giving-neat : (n : ℕ) (x : Answer) → n < long → Neat x → Neat (giving (pos n) x)
 giving-neat n x l h = record { result = l; device = h .device }
 
 create : Says-neat Rules.create
@@ -198,7 +197,7 @@ support p a1 a2 a3 m c = carry-neat p _ m (giving-neat (p .handle) plain (c .han
 
 identity : Says-neat Rules.identity
 unfolding Rules.identity
-identity p a1 a2 a3 m c = carry-neat p _ m (giving-neat _ plain (if-cases (λ (n : ℕ). n < 2 ^ 63) (eqb a1 0) (λ _. c .id) (λ _. c .parent)) neat)
+identity p a1 a2 a3 m c = carry-neat p _ m (giving-neat _ plain (if-cases (λ (n : ℕ). n < long) (eqb a1 0) (λ _. c .id) (λ _. c .parent)) neat)
 
 yield : Says-neat Rules.yield
 unfolding Rules.yield
@@ -211,7 +210,7 @@ service Kernel (pos n) = trapped
 service Kernel (negsuc n) =
     getD-cases Says-neat Rules.services (create, (terminate, (passeren, (verhogen, (do-io, (cpu-time, (wait-clock, (support, (identity, (yield, tt)))))))))) trapped n
 
-interrupt : (now n x y : ℕ) (m : Machine) → bad-line (Interrupt now n x y) ≡ false → x < 2 ^ 8 → y < 2 ^ 8 → Ends-neat (Rules.interrupt n x y m)
+interrupt : (now n x y : ℕ) (m : Machine) → bad-line (Interrupt now n x y) ≡ false → x < byte → y < byte → Ends-neat (Rules.interrupt n x y m)
 unfolding Rules.interrupt Rules.tick Rules.device-done bad-line
 interrupt now n x y m ok fx fy =
     if-cases Ends-neat (eqb n 1) (λ _. first-cases Ends-neat (m .running) (λ _. schedule-neat plain m neat) (λ _ _ _. schedule-neat plain _ neat)) λ not-one.
@@ -231,11 +230,11 @@ module _ (slots sems : ℕ) (m : Machine) (e : Event) (t : Tables slots sems m) 
   abbrev m₁ : Machine
   m₁ = charge (Rules.clock e) m
 
-  not-full : m .total + gap (Rules.clock e) m ≤ 2 ^ 62
+  not-full : m .total + gap (Rules.clock e) m ≤ time-limit
   unfolding Rules.rows
-  not-full = ltb-false (2 ^ 62) (m .total + gap (Rules.clock e) m) (passed m e ok .1 .1 .1 .1 .0)
+  not-full = ltb-false (time-limit) (m .total + gap (Rules.clock e) m) (passed m e ok .1 .1 .1 .1 .0)
 
-  parent-low : (n : ℕ) (ns : List ℕ) → All (λ a. a < n) ns → n < 2 ^ 63 → first ns 0 (λ n. n) < 2 ^ 63
+  parent-low : (n : ℕ) (ns : List ℕ) → All (λ a. a < n) ns → n < long → first ns 0 (λ n. n) < long
   parent-low n [] h l = omega arith
   parent-low n (a ∷ ns) h l = omega (arith, h .0)
 
@@ -245,11 +244,11 @@ module _ (slots sems : ℕ) (m : Machine) (e : Event) (t : Tables slots sems m) 
       All-over (λ p. Caller p m₁) (longer g) (m .running)
       (go (m .running) (all-running _ m (short slots sems m t)) (all-running _ m (w .words)) (all-running _ m (issued m (sound slots sems m t))) (all-running _ m (t .older)))
     where
-      go : (ps : List Process) → All (λ p. p .time ≤ m .total) ps → All (λ p. (p .priority < 2 ^ 32) × (p .handle < 2 ^ 32)) ps → All (λ p. p .id < m .next) ps
+      go : (ps : List Process) → All (λ p. p .time ≤ m .total) ps → All (λ p. (p .priority < word) × (p .handle < word)) ps → All (λ p. p .id < m .next) ps
           → All (λ p. (1 ≤ p .id) × All (λ a. a < p .id) (p .ancestors)) ps → All (λ p. Caller (longer g p) m₁) ps
       go [] a b c d = tt
       go (p ∷ ps) a b c d =
-          let low : p .id < 2 ^ 63 = omega (arith, c .0, t .limits .2) in (
+          let low : p .id < long = omega (arith, c .0, t .limits .2) in (
             record { time = omega (arith, a .0, not-full); handle = omega (arith, b .0 .1); id = low; parent = parent-low (p .id) (p .ancestors) (d .0 .1) low; next = omega (arith, t .limits .2) },
             go ps (a .1) (b .1) (c .1) (d .1),
           )
@@ -295,7 +294,7 @@ ended-sum f (ends n) m = omega (arith, sum-killed f n m)
 -- ── What the machine keeps ──
 
 Words : Process → Type 0
-Words p = (p .priority < 2 ^ 32) × (p .handle < 2 ^ 32)
+Words p = (p .priority < word) × (p .handle < word)
 
 -- a newborn's priority and handle are words of the event
 abbrev Small : Move → Type 0
@@ -304,7 +303,7 @@ Small steps-back = Unit {0}
 Small (joins l) = Unit {0}
 Small (first-wakes l) = Unit {0}
 Small (all-wake l) = Unit {0}
-Small (is-born a2 a3) = (a2 < 2 ^ 32) × (a3 < 2 ^ 32)
+Small (is-born a2 a3) = (a2 < word) × (a3 < word)
 Small (ends n) = Unit {0}
 
 out-small : (e : Event) (m : Machine) → Well-formed e → Small (carried-out e m)
@@ -320,7 +319,7 @@ out-small (Exception now code) m f = tt
 move-small : (e : Event) (m : Machine) → Well-formed e → Small (move e m)
 move-small e m f = first-cases Small (target e m) (λ _. if-cases Small (passed-up e m) (λ _. tt) (λ _. out-small e m f)) (λ n ns _. tt)
 
-newborns : (a2 a3 : ℕ) (m : Machine) → (a2 < 2 ^ 32) × (a3 < 2 ^ 32) → (ps : List Process) → All Words (map (λ p. newborn p a2 a3 m) ps)
+newborns : (a2 a3 : ℕ) (m : Machine) → (a2 < word) × (a3 < word) → (ps : List Process) → All Words (map (λ p. newborn p a2 a3 m) ps)
 unfolding Words
 newborns a2 a3 m h [] = tt
 newborns a2 a3 m h (p ∷ ps) = (h, newborns a2 a3 m h ps)
@@ -377,20 +376,20 @@ newborn-within : (slots : ℕ) (p : Part) (r : Result) (m : Machine) → m .slot
 newborn-within slots Absent r m e h = tt
 newborn-within slots (Number s) r m e h = subst (λ (i : ℕ). s < i) e (h .there)
 
-clock-within : (e : Event) → Well-formed e → Rules.clock e < 2 ^ 32
+clock-within : (e : Event) → Well-formed e → Rules.clock e < word
 clock-within (Call now mode a0 a1 a2 a3) f = f .0
 clock-within (Interrupt now n x y) f = f .0
 clock-within (Exception now code) f = f .0
 
-number-within : (rs : List (ℕ × Bool)) → All (λ r. r .0 < 2 ^ 8) rs → first (those (λ r. r .1) rs) 0 (λ r. r .0) < 2 ^ 8
+number-within : (rs : List (ℕ × Bool)) → All (λ r. r .0 < byte) rs → first (those (λ r. r .1) rs) 0 (λ r. r .0) < byte
 number-within [] h = omega arith
 number-within (r ∷ rs) h = go (r .1) (number-within rs (h .1))
   where
-    go : (b : Bool) → first (those (λ r. r .1) rs) 0 (λ r. r .0) < 2 ^ 8 → first (if b then r ∷ those (λ r. r .1) rs else those (λ r. r .1) rs) 0 (λ r. r .0) < 2 ^ 8
+    go : (b : Bool) → first (those (λ r. r .1) rs) 0 (λ r. r .0) < byte → first (if b then r ∷ those (λ r. r .1) rs else those (λ r. r .1) rs) 0 (λ r. r .0) < byte
     go true ih = h .0
     go false ih = ih
 
-refusal-within : (m : Machine) (e : Event) → Rules.refusal m e < 2 ^ 8
+refusal-within : (m : Machine) (e : Event) → Rules.refusal m e < byte
 unfolding Rules.refusal Rules.rows
 refusal-within m e = number-within (Rules.rows m e) (omega arith, (omega arith, (omega arith, (omega arith, (omega arith, (omega arith, tt))))))
 
@@ -412,10 +411,10 @@ module _ (slots sems : ℕ) (m : Machine) (e : Event) (t : Tables slots sems m) 
       let t′ : Tables slots sems (o .after) = rw (accepts m e ok) at (keeps slots sems m e t) in
       let g = sound-charged now m (sound slots sems m t) in
       rw (accepts m e ok) record {
-        kept = record { last = subst (λ (i : ℕ). i < 2 ^ 32) (sym (a .1)) (clock-within e f); words = words-after k (each-charged Words (λ g p h. h) now m (w .words)) (move e m) o v (move-small e m f) };
+        kept = record { last = subst (λ (i : ℕ). i < word) (sym (a .1)) (clock-within e f); words = words-after k (each-charged Words (λ g p h. h) now m (w .words)) (move e m) o v (move-small e m f) };
         said = record {
           refusal = omega (arith, a .0);
-          runner = subst (All (λ s. s < slots)) (named-after k e one .1) (All-over (λ s. s < slots) (λ p. p .slot) (o .after .running) (all-running _ (o .after) (subst (λ (i : ℕ). All (λ p. p .slot < i) (living (o .after))) (t′ .slots-there) (seated (o .after) (sound slots sems (o .after) t′)))));
+          runner = subst (All (λ s. s < slots)) (named-after k e one .1) (All-over (λ s. s < slots) (λ p. p .slot) (o .after .running) (all-running (λ p. p .slot < slots) (o .after) (subst (λ (i : ℕ). All (λ p. p .slot < i) (living (o .after))) (t′ .slots-there) (seated (o .after) (sound slots sems (o .after) t′)))));
           result = n .result;
           newborn = newborn-within slots (o .answer .newborn) (o .answer .result) m (t .slots-there) (rw (accepts m e ok) at (newborn-told m e (sound slots sems m t, t .one-runs)));
           device = n .device;
@@ -440,6 +439,6 @@ ranges-hold slots sems (e ∷ es) m t w f =
     let k = ranges-hold slots sems es (step m e .after) (keeps slots sems m e t) (i .kept) (f .1) in
     (k .0, (i .said, k .1))
 
-pub fresh-ranged : (slots now : ℕ) (values : List ℕ) → now < 2 ^ 32 → Ranged (fresh slots now values)
+pub fresh-ranged : (slots now : ℕ) (values : List ℕ) → now < word → Ranged (fresh slots now values)
 unfolding fresh living
 fresh-ranged slots now values h = record { last = h; words = ((omega arith, omega arith), tt) }

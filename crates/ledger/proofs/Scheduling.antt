@@ -3,7 +3,6 @@ use mathlib.Core.Path.{_≡_, refl, sym, _∙_, ap}
 use mathlib.Core.Bool.{true, false, true≢false}
 use mathlib.Core.List.{List, [], _∷_, _++_, map}
 use Prim.Native.Nat.{ℕ}
-use native.Mathlib.Omega.{arith}
 use Rattle.rules.specs.declared.Event.{Event}
 use Rattle.rules.specs.declared.Action.{Action}
 use Rattle.rules.specs.declared.Action.the-variants.{CarryOn, Run, Wait, Halt, Panic, PassUp, Nothing}
@@ -20,6 +19,7 @@ use Rattle.rules.specs.Walk.{Walk, charge-single}
 use Rattle.rules.specs.Laws.{passed}
 use Rattle.ledger.specs.History.{stops}
 use Rattle.ledger.specs.Scheduling.{idle-as, Idles, Runs, Scheduled}
+use Rattle.ledger.proofs.Lists.{no-one}
 
 -- nobody alive: nobody ready
 none-ready : (m : Machine) → living m ≡ [] → m .running ≡ [] → m .ready ≡ []
@@ -28,11 +28,11 @@ none-ready m e r = go (m .ready) _ (rw r at e)
   where
     go : (ps qs : List Process) → ps ++ qs ≡ [] → ps ≡ []
     go [] qs e = refl
-    go (p ∷ ps) qs e = let z : _≡_ {A = ℕ} 0 1 = cc in absurd (omega arith)
+    go (p ∷ ps) qs e = absurd (no-one p (ps ++ qs) e)
 
 idles : (a : Answer) (m : Machine) (rs : List Process) → rs ≡ [] → Idles a m → first rs (Idles a m) (Runs a m)
 idles a m [] e h = h
-idles a m (p ∷ ps) e h = let z : _≡_ {A = ℕ} 0 1 = cc in absurd (omega arith)
+idles a m (p ∷ ps) e h = absurd (no-one p ps e)
 
 -- the three ways of running nobody
 halts-so : (m : Machine) → living m ≡ [] → (Halt ≡ idle-as m .0) × (Halted ≡ idle-as m .1)
@@ -95,8 +95,8 @@ runs-on : (a : Action) (s : ℕ) → runner-of a ≡ s ∷ [] → stops a ≡ fa
 runs-on (CarryOn k) s e = refl
 runs-on (Run k) s e = refl
 runs-on Wait s e = refl
-runs-on Halt s e = let z : _≡_ {A = ℕ} 0 1 = cc in absurd (omega arith)
-runs-on Panic s e = let z : _≡_ {A = ℕ} 0 1 = cc in absurd (omega arith)
+runs-on Halt s e = absurd (no-one s [] (sym e))
+runs-on Panic s e = absurd (no-one s [] (sym e))
 runs-on (PassUp k c) s e = refl
 runs-on Nothing s e = refl
 

@@ -1,5 +1,5 @@
 -- Why the gaps that the ids issued ran, together with the idle ones, are all accepted gaps; so ended time is the sum over the dead.
-use mathlib.Core.Path.{_≡_, refl, sym, _∙_, ap, subst}
+use mathlib.Core.Path.{_≡_, refl}
 use mathlib.Core.Bool.{Bool, true, false}
 use mathlib.Core.List.{List, [], _∷_}
 use Prim.Native.Nat.{ℕ, zero, suc, _+_, _≤_, _<_}
@@ -9,13 +9,13 @@ use borrow.Author.Tests.{eqb-true, eqb-false, ne-eqb}
 use Rattle.rules.specs.declared.Event.{Event}
 use Rattle.rules.specs.declared.Answer.{Answer}
 use Rattle.rules.specs.Words.{if_then_else_, first, sum}
-use Rattle.rules.specs.Cases.{if-cases, All}
-use Rattle.rules.specs.Machine.{Process, Machine, living}
+use Rattle.rules.specs.Cases.{All}
+use Rattle.rules.specs.Machine.{Process, Machine}
 use Rattle.rules.specs.Living.{all-running}
 use Rattle.rules.specs.Rules.{step, run, answers}
 use Rattle.rules.specs.Sound.{slots-of, issued}
 use Rattle.rules.specs.Tables.{Tables, keeps, sound}
-use Rattle.ledger.specs.History.{Past, holder, accepted, ran, idled, accepted-gap, gap-of, onward, tally-past}
+use Rattle.ledger.specs.History.{mask-bits, Past, holder, accepted, ran, idled, accepted-gap, gap-of, onward, tally-past}
 use Rattle.ledger.specs.Ids.{counting}
 use Rattle.ledger.proofs.Births.{Linked, Known, linked}
 use Rattle.ledger.proofs.Ids.{numbered}
@@ -66,7 +66,7 @@ module _ (slots sems l : ℕ) (h : Past) (m : Machine) (t : Tables slots sems m)
       go false = omega (arith, sum-none (counting 1 l))
 
 -- any events
-pub all-shares : (slots sems l : ℕ) → slots ≤ 64 → (es : List Event) (h : Past) (m : Machine) → Tables slots sems m → Linked h m → run m es .next ≤ suc l
+pub all-shares : (slots sems l : ℕ) → slots ≤ mask-bits → (es : List Event) (h : Past) (m : Machine) → Tables slots sems m → Linked h m → run m es .next ≤ suc l
     → sum (λ n. tally-past (ran n) h es (answers m es)) (counting 1 l) + tally-past idled h es (answers m es) ≡ tally-past accepted-gap h es (answers m es)
 unfolding run answers
 all-shares slots sems l few [] h m t k most = omega (arith, sum-none (counting 1 l))

@@ -1,24 +1,22 @@
 -- Why each process's time is the sum of the accepted gaps that it ran, and ended time the sum over the dead.
 use mathlib.Core.Path.{_≡_, refl, sym, _∙_, ap, subst}
-use mathlib.Core.Bool.{Bool, true, false}
+use mathlib.Core.Bool.{false}
 use mathlib.Core.List.{List, [], _∷_, map}
-use Prim.Native.Nat.{ℕ, zero, suc, _+_, _≤_, _<_}
+use Prim.Native.Nat.{ℕ, _+_, _≤_, _<_}
 use native.Mathlib.Omega.{arith}
 use lib.Dec.{eqb, ltb}
-use lib.ListN.{length}
-use borrow.Author.Tests.{eqb-true, eqb-false, eq-eqb, ne-eqb}
+use borrow.Author.Tests.{eqb-false, eq-eqb, ne-eqb}
 use Rattle.rules.specs.declared.Event.{Event}
-use Rattle.rules.specs.declared.Answer.{Answer}
-use Rattle.rules.specs.Words.{if_then_else_, first, sum, count, many}
+use Rattle.rules.specs.Words.{if_then_else_, first, sum, count}
 use Rattle.rules.specs.Lines.{count-le, many-fail}
 use Rattle.rules.specs.Cases.{Single, All, All-each}
 use Rattle.rules.specs.Machine.{Process, Machine, Status, living, longer, with-sem, with-status, kill, birth, gap, charge, fresh}
-use Rattle.rules.specs.Living.{Same, process, living-sum, all-living, all-running, all-ready, all-waiting, each-killed, each-born, status-living}
+use Rattle.rules.specs.Living.{process, living-sum, all-living, all-running, all-ready, all-waiting, each-killed, each-born, status-living}
 use Rattle.rules.specs.Answers.{Outcome}
 use Rattle.rules.specs.Rules
 use Rattle.rules.specs.Rules.{step, run, answers}
 use Rattle.rules.specs.Walk.{Kept, perform-keeps, charge-single}
-use Rattle.rules.specs.Sound.{Sound, Settled, settled, issued, slots-of, sound-kept, sound-set, sound-charged}
+use Rattle.rules.specs.Sound.{Sound, Settled, settled, issued, slots-of}
 use Rattle.ledger.specs.History.{Past, holder, ran, idled, accepted-gap, gap-of, onward, tally-past}
 use Rattle.rules.specs.Laws.{accepts}
 use Rattle.ledger.proofs.Verdicts.{by-verdict}

@@ -7,7 +7,6 @@ use mathlib.Core.List.{List, [], _∷_, _++_}
 use Prim.Native.Nat.{ℕ, suc}
 use lib.Dec.{eqb, leb, ltb}
 use lib.IntN.{pos, negsuc}
-use lib.ListN.{length}
 use Rattle.rules.specs.declared.Mode.the-variants.{User, Kernel}
 use Rattle.rules.specs.declared.Event.{Event}
 use Rattle.rules.specs.declared.Event.the-variants.{Call, Interrupt, Exception}
@@ -70,6 +69,8 @@ pub record Others-live (dies : Process → Bool) (m m′ : Machine) : Type 0 whe
 -- an accepted event e in the machine m, after the births bs. The gap is charged before anything else
 pub record Kills (bs : List Birth) (m : Machine) (e : Event) : Type 0 where
   pub ended-mask : step m e .answer .ended ≡ mask (those (doomed bs (target e m)) (living m))
+  pub lives-on : All (λ p. doomed bs (target e m) p ≡ false → alive (p .id) (step m e .after) ≡ true) (living (charge (clock e) m))
+  -- where nobody ends, Moves says who moves
   pub others : first (target e m) (Unit {0}) (λ n. Others-live (doomed bs (target e m)) (charge (clock e) m) (step m e .after))
 
 -- "every ancestor of the living is alive", by the births told

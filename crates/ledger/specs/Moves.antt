@@ -7,12 +7,10 @@ use Prim.Native.Nat.{ℕ}
 use lib.Dec.{eqb}
 use lib.IntN.{pos, negsuc}
 use lib.ListN.{getD}
-use Rattle.rules.specs.declared.Mode.{Mode}
 use Rattle.rules.specs.declared.Event.{Event}
 use Rattle.rules.specs.declared.Event.the-variants.{Call, Interrupt, Exception}
 use Rattle.rules.specs.declared.Line.{Line}
 use Rattle.rules.specs.declared.Line.the-variants.{Semaphore, Device, PseudoClock}
-use Rattle.rules.specs.declared.Answer.{Answer}
 use Rattle.rules.specs.Words.{if_then_else_, first, those, front, rest, without}
 use Rattle.rules.specs.Machine.{Process, Waiter, Machine, at, line, family, family-of, newborn}
 use Rattle.rules.specs.Answers.{Outcome, mask}

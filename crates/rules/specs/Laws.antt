@@ -1,8 +1,8 @@
 -- Refusals; the sizes; times add up; the limits of time and of ids.
 use mathlib.Core.Path.{_≡_, refl, _∙_}
-use mathlib.Core.Bool.{Bool, true, false, not}
+use mathlib.Core.Bool.{Bool, true, false}
 use mathlib.Core.List.{List, [], _∷_, _++_, map}
-use Prim.Native.Nat.{ℕ, suc, _+_, _-_, _≤_, _<_, _^_}
+use Prim.Native.Nat.{ℕ, suc, _+_, _-_, _≤_, _<_}
 use native.Mathlib.Omega.{arith}
 use lib.Dec.{eqb, leb, ltb}
 use borrow.Author.Tests.{ne-eqb, ltb-true, ltb-false, eqb-true, eqb-false}
@@ -10,7 +10,7 @@ use lib.ListN.{length, length-set, getD, set}
 use lib.Seq.{getD-set-same, getD-set-other}
 use Rattle.rules.specs.declared.Event.{Event}
 use Rattle.rules.specs.Words.{if_then_else_, first, those, sum}
-use Rattle.rules.specs.Numbers.{top}
+use Rattle.rules.specs.Numbers.{top, time-limit}
 use Rattle.rules.specs.Cases.{Single, All, and-left, and-right}
 use Rattle.rules.specs.Machine.{Process, Machine, Status, living, longer, with-sem, with-status, kill, birth, gap, charge}
 use Rattle.rules.specs.Living.{sum-killed, sum-born, sum-charged}
@@ -109,7 +109,7 @@ accounted m e one h = step-keeps Accounted accounted-kept set-still m e one (λ 
 -- ── Limits: of all time, of the ids ──
 
 abbrev pub Limited : Machine → Type 0
-Limited m = (m .total ≤ 2 ^ 62) × (2 ≤ m .next) × (m .next ≤ 2147483648)
+Limited m = (m .total ≤ time-limit) × (2 ≤ m .next) × (m .next ≤ suc top)
 
 limited-kept : Kept Limited (λ x. Limited)
 unfolding kill birth full
@@ -126,7 +126,7 @@ pub limited : (m : Machine) (e : Event) → Single (m .running) → Limited m �
 unfolding charge rows
 limited m e one h =
     step-keeps Limited limited-kept (λ i v m h. h) m e one
-    (λ ok. (ltb-false (2 ^ 62) (m .total + gap (clock e) m) (passed m e ok .1 .1 .1 .1 .0), h .1, h .2)) h
+    (λ ok. (ltb-false time-limit (m .total + gap (clock e) m) (passed m e ok .1 .1 .1 .1 .0), h .1, h .2)) h
 
 -- ── Values ──
 

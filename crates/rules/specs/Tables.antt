@@ -2,19 +2,19 @@
 use mathlib.Core.Path.{_≡_, refl, subst}
 use mathlib.Core.Bool.{true, false}
 use mathlib.Core.List.{List, [], _∷_, map}
-use Prim.Native.Nat.{ℕ, zero, suc, _+_, _≤_, _<_, _^_}
+use Prim.Native.Nat.{ℕ, zero, suc, _+_, _≤_, _<_}
 use native.Mathlib.Omega.{arith}
 use lib.Dec.{eqb, ltb}
 use lib.IntN.{negsuc}
 use lib.ListN.{length, getD, replicate, length-replicate}
-use borrow.Author.Tests.{ltb-false, lt-ltb, le-ltb, eqb-true, eqb-false, eq-eqb, ne-eqb}
+use borrow.Author.Tests.{ltb-false, lt-ltb, le-ltb, eq-eqb}
 use Rattle.rules.specs.Lines.{count-le, many-fail}
 use Rattle.rules.specs.Living.{process, living-sum}
 use Rattle.rules.specs.declared.Event.{Event}
 use Rattle.rules.specs.declared.Event.the-variants.{Call}
 use Rattle.rules.specs.declared.Mode.the-variants.{Kernel}
 use Rattle.rules.specs.Words.{any, sum, count, many}
-use Rattle.rules.specs.Numbers.{top}
+use Rattle.rules.specs.Numbers.{top, time-limit}
 use Rattle.rules.specs.Cases.{if-cases, Single, All}
 use Rattle.rules.specs.Machine.{Process, Machine, living, fresh}
 use Rattle.rules.specs.Rules.{step, run, value, nothing-left, start}
@@ -42,7 +42,7 @@ pub record Tables (slots sems : ℕ) (m : Machine) : Type 0 where
   -- the sum of the accepted gaps is idle time, ended time and the times of the living
   pub times : m .total ≡ m .idle + m .ended + sum (λ p. p .time) (living m)
   -- it is at most 2 to the 62; the next id is 2 to 2,147,483,648
-  pub limits : (m .total ≤ 2 ^ 62) × (2 ≤ m .next) × (m .next ≤ 2147483648)
+  pub limits : (m .total ≤ time-limit) × (2 ≤ m .next) × (m .next ≤ suc top)
   -- who has ancestors has a parent alive, whose id and ancestors they are
   pub parents : All (λ p. descends (p .ancestors) (living m)) (living m)
   -- ids begin with 1, and ancestors have smaller ids

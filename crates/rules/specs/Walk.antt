@@ -28,7 +28,7 @@ use Rattle.rules.specs.Lines.{many-some}
 use Rattle.rules.specs.Numbers.{sub-devices}
 use Rattle.rules.specs.Cases.{if-cases, first-cases, Single, single-cases, getD-cases, and-intro}
 use Rattle.rules.specs.Machine.{Process, Waiter, Machine, Status, Halted, Panicked, living, with-lines, with-sem, with-status, line, nucleus-waits}
-use Rattle.rules.specs.Machine.{back, block, dispatch, wake, wake-all, named, family, family-of, kill, lowest-free, birth, gap, charge}
+use Rattle.rules.specs.Machine.{back, block, dispatch, wake, wake-all, named, family, family-of, kill, lowest-free, birth, charge}
 use Rattle.rules.specs.Living.{Same, same-back, same-block, same-dispatch, same-wake, same-wake-all}
 use Rattle.rules.specs.Rules
 use Rattle.rules.specs.Answers.{Outcome, plain, doing, giving, bearing, naming, waking, ending}
