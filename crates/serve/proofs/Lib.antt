@@ -1,0 +1,8 @@
+-- Laws that no single function's proof owns.
+-- For the functions:
+pub mod Kept
+pub mod Blocks
+-- Of the program, for its readers:
+pub mod Unique
+pub mod Remains
+pub mod Whole
