@@ -1,0 +1,2 @@
+-- A law for callers.
+pub mod Counted
