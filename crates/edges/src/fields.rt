@@ -1,0 +1,342 @@
+// The log's refusals, at each place where they can stand, and their order within a field.
+
+// 20, 21 and 23 at the first field
+fn first_cut_or_unknown() {
+    play::play(
+        b"# an empty log
+
+# a start and nothing more: no lines
+start 1000
+
+# 20 at the first field: one byte of its head
+start 1000
+cut 134
+
+# 20 at the first field: two bytes of its head
+start 1000
+cut 133
+
+# 20 at the first field: a head and no value
+start 1000
+cut 132
+
+# 20 at the first field: a value one byte short
+start 1000
+cut 1
+
+# 21 at the first field: tag 0
+start 1000
+byte 0 0
+
+# 21 at the first field: tag 5
+start 1000
+byte 0 5
+
+# 21 at the first field: tag 255
+start 1000
+byte 0 255
+
+",
+    );
+}
+
+// 22, 23 and 24 at the first field
+fn first_refused() {
+    play::play(
+        b"# 22 at the first field: length 131
+start 1000
+byte 1 131
+
+# 22 at the first field: length 133
+start 1000
+byte 1 133
+
+# 22 at the first field: length 132 + 256
+start 1000
+byte 2 1
+
+# 23 at the first field: a call
+kernel 1000 -6
+
+# 23 at the first field: an interrupt
+interrupt 1000 2 0 0
+
+# 23 at the first field: an exception
+exception 1000 24
+
+# 24: value 0 is 2147483648
+start 1000 0 2147483648
+kernel 1100 -6
+
+# 24: value 31 is 4294967295
+start 1000 31 4294967295
+
+# no 24: value 31 is 2147483647
+start 1000 31 2147483647
+kernel 1100 -6
+
+",
+    );
+}
+
+// 20 at a later field
+fn later_cut() {
+    play::play(
+        b"# 20 at the last field: one byte of its head
+start 1000
+kernel 1100 -6
+interrupt 1200 2 0 0
+cut 9
+
+# 20 at the last field: two bytes of its head
+start 1000
+kernel 1100 -6
+interrupt 1200 2 0 0
+cut 8
+
+# 20 at the last field: a head and no value
+start 1000
+kernel 1100 -6
+cut 21
+
+# 20 at the last field: a call one byte short
+start 1000
+kernel 1100 -6
+cut 1
+
+# 20 at the last field: an interrupt one byte short
+start 1000
+interrupt 1100 2 0 0
+interrupt 1200 2 0 0
+cut 1
+
+# 20 at the last field: an exception one byte short
+start 1000
+exception 1100 24
+cut 1
+
+",
+    );
+}
+
+// 21 at a later field
+fn later_unknown() {
+    play::play(
+        b"# 21 at a middle field: earlier events stand, later ones are not read
+start 1000
+kernel 1100 -6
+kernel 1200 -6
+byte 0 5
+kernel 1300 -6
+
+# 21 at the last field: tag 0
+start 1000
+kernel 1100 -6
+exception 1200 24
+byte 0 0
+
+",
+    );
+}
+
+// 22 at a later field
+fn later_length() {
+    play::play(
+        b"# 22 at a middle field: a call of 20
+start 1000
+kernel 1100 -6
+byte 1 20
+kernel 1200 -6
+
+# 22 at a middle field: an interrupt of 5
+start 1000
+interrupt 1100 2 0 0
+byte 1 5
+kernel 1200 -6
+
+# 22 at the last field: an exception of 7
+start 1000
+kernel 1100 -6
+exception 1200 24
+byte 1 7
+
+# 22 at the last field: a call of 21 + 256
+start 1000
+kernel 1100 -6
+kernel 1200 -6
+byte 2 1
+
+",
+    );
+}
+
+// 23 at a later field
+fn later_start() {
+    play::play(
+        b"# 23 at the second field: a start again
+start 1000
+start 1000
+
+# 23 at a middle field
+start 1000
+kernel 1100 -6
+start 1200
+kernel 1300 -6
+
+# 23 at the last field
+start 1000
+kernel 1100 -6
+kernel 1200 -6
+start 1300
+
+",
+    );
+}
+
+// 25
+fn later_mode() {
+    play::play(
+        b"# 25 at the first event: mode 2
+start 1000
+kernel 1100 -6
+byte 7 2
+
+# 25 at a middle field: mode 255
+start 1000
+kernel 1100 -6
+kernel 1200 -6
+byte 7 255
+kernel 1300 -6
+
+# 25 at the last field: mode 2
+start 1000
+interrupt 1100 2 0 0
+user 1200 1
+byte 7 2
+
+",
+    );
+}
+
+// 20, 21 and 22 before the rest
+fn order_of_heads() {
+    play::play(
+        b"# order: a head cut is 20, whatever its tag
+start 1000
+kernel 1100 -6
+byte 0 9
+cut 22
+
+# order: an unknown tag is 21, whatever its length
+start 1000
+kernel 1100 -6
+byte 0 9
+byte 1 99
+cut 21
+
+# order: a wrong length is 22, though the value is cut
+start 1000
+kernel 1100 -6
+byte 1 99
+
+# order: a wrong length is 22, though it is the first field and no start
+interrupt 1000 2 0 0
+byte 1 8
+
+",
+    );
+}
+
+// 20 before 23, 23 before 25
+fn order_of_values() {
+    play::play(
+        b"# order: a first field that is a cut event is 20
+kernel 1000 -6
+cut 1
+
+# order: mode 2 in a first field is 23
+kernel 1000 -6
+byte 7 2
+
+# order: mode 2 in a cut call is 20
+start 1000
+kernel 1100 -6
+byte 7 2
+cut 1
+
+",
+    );
+}
+
+// 20, 22 and 23 before 24; and what stands before a refusal
+fn order_of_starts() {
+    play::play(
+        b"# order: a start too large and cut is 20
+start 1000 0 4294967295
+cut 1
+
+# order: a later start too large is 23
+start 1000
+start 1000 0 4294967295
+
+# order: a later start cut is 20
+start 1000
+start 1000
+cut 1
+
+# order: a later start of a wrong length is 22
+start 1000
+start 1000
+byte 1 133
+
+# reading goes on after halt
+start 1000
+kernel 1100 -2 0
+kernel 1200 -6
+kernel 1300 -6
+byte 7 2
+
+# refused events are fields too
+start 1000
+interrupt 1100 0 0 0
+exception 1200 8
+exception 1300 24
+byte 0 7
+
+",
+    );
+}
+
+// 26
+fn sizes() {
+    play::play(
+        b"# 65536 bytes are read: field 2 has tag 0
+start 1000
+kernel 1100 -6
+fill 65536
+
+# 65537 bytes: 26, before all else
+start 1000
+kernel 1100 -6
+fill 65537
+
+# 65537 bytes, and no start: 26
+fill 65537
+
+",
+    );
+}
+
+pub fn all() {
+    first_cut_or_unknown();
+    first_refused();
+    later_cut();
+    later_unknown();
+    later_length();
+    later_start();
+    later_mode();
+    order_of_heads();
+    order_of_values();
+    order_of_starts();
+    sizes();
+}

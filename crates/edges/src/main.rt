@@ -1,0 +1,14 @@
+// Every edge of the rules, played: what it writes is held to `stdout`, which was written by hand from the rules.
+mod calls;
+mod fields;
+mod interrupts;
+mod refusals;
+mod tried;
+
+fn main() {
+    tried::all();
+    refusals::all();
+    calls::all();
+    interrupts::all();
+    fields::all();
+}
