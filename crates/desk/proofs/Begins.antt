@@ -22,10 +22,10 @@ abbrev pub zeros : ℕ → List ℕ
 zeros n = replicate n 0
 
 abbrev pub begun : ℕ → List ℕ → Machine
-begun now values = record { ids = 1 ∷ zeros (base-slots - 1); parents = zeros base-slots; priorities = zeros base-slots; handles = zeros base-slots; times = zeros base-slots; lines = zeros base-slots; ready = zeros base-slots; nready = 0; waits = zeros base-slots; nwaits = 0; running = 0; sems = values; next = 2; status = 0; last = now; total = 0; idle = 0; ended = 0 }
+begun now values = record { ids = 1 ∷ zeros (base-slots - 1); taken = 1; parents = zeros base-slots; priorities = zeros base-slots; handles = zeros base-slots; times = zeros base-slots; lines = zeros base-slots; ready = zeros base-slots; nready = 0; waits = zeros base-slots; nwaits = 0; running = 0; sems = values; next = 2; status = 0; last = now; total = 0; idle = 0; ended = 0 }
 
 abbrev pub left : Machine
-left = record { ids = zeros base-slots; parents = zeros base-slots; priorities = zeros base-slots; handles = zeros base-slots; times = zeros base-slots; lines = zeros base-slots; ready = zeros base-slots; nready = 0; waits = zeros base-slots; nwaits = 0; running = base-slots; sems = zeros base-sems; next = 2; status = 1; last = 0; total = 0; idle = 0; ended = 0 }
+left = record { ids = zeros base-slots; taken = 0; parents = zeros base-slots; priorities = zeros base-slots; handles = zeros base-slots; times = zeros base-slots; lines = zeros base-slots; ready = zeros base-slots; nready = 0; waits = zeros base-slots; nwaits = 0; running = base-slots; sems = zeros base-sems; next = 2; status = 1; last = 0; total = 0; idle = 0; ended = 0 }
 
 pub begun-view : (now : ℕ) (values : List ℕ) → view (begun now values) ≡ fresh base-slots now values
 unfolding rule-book climb

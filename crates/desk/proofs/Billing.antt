@@ -50,7 +50,7 @@ unfolding gap
 gap-is m r now a b c h = omega arith
 
 abbrev pub charged : Machine → ℕ → List ℕ → ℕ → Machine
-charged m now ts i = record { ids = m .ids; parents = m .parents; priorities = m .priorities; handles = m .handles; times = ts; lines = m .lines; ready = m .ready; nready = m .nready; waits = m .waits; nwaits = m .nwaits; running = m .running; sems = m .sems; next = m .next; status = m .status; last = now; total = m .total + gap now (view m); idle = i; ended = m .ended }
+charged m now ts i = record { ids = m .ids; taken = m .taken; parents = m .parents; priorities = m .priorities; handles = m .handles; times = ts; lines = m .lines; ready = m .ready; nready = m .nready; waits = m .waits; nwaits = m .nwaits; running = m .running; sems = m .sems; next = m .next; status = m .status; last = now; total = m .total + gap now (view m); idle = i; ended = m .ended }
 
 module _ (m : Machine) (g : Shape m) (now : ℕ) (fits : m .total + gap now (view m) ≤ time-limit) where
   abbrev k : ℕ

@@ -81,7 +81,7 @@ module _ (m : Machine) (g : Shape m) where
     pub found-slot : s < base-slots
     found-slot = omega (arith, first-in isZero (m .ids) 0 s e, g .ids-long)
 
-    found-free : getD (m .ids) s 0 ≡ 0
+    pub found-free : getD (m .ids) s 0 ≡ 0
     found-free = eqb-true (getD (m .ids) s 0) 0 (found-passes isZero (m .ids) s e)
 
     lowest-found : lowest-free (view m) ≡ s

@@ -3,7 +3,7 @@
 use mathlib.Core.Path.{_≡_, refl, sym, ap, ap₂, _∙_}
 use mathlib.Core.Bool.{Bool, true, false, not, true≢false}
 use mathlib.Core.List.{List, _∷_, _++_, map}
-use Prim.Native.Nat.{ℕ, zero, suc, _+_, _^_, _<_, _≤_}
+use Prim.Native.Nat.{ℕ, zero, suc, _+_, _-_, _^_, _<_, _≤_}
 use native.Mathlib.Omega.{arith}
 use lib.Dec.{leb}
 use lib.ListN.{length, getD}
@@ -15,9 +15,10 @@ use Rattle.rules.specs.Sums.{sum-over}
 use Rattle.rules.specs.Lines.{those-append}
 use Rattle.rules.specs.Machine.{Process, Waiter, family, family-of, kill}
 use Rattle.rules.specs.Answers.{mask}
-use Rattle.lines.specs.Lines.{entry, marked, alive, kept, struck, sparedOf, occ, tally}
+use Rattle.lines.specs.Lines.{entry, marked, alive, kept, struck, sparedOf, occ, tally, takenMask}
 use Rattle.lines.proofs.Occ.{occ-keep, sum-marked, tally-add, tally-same}
 use Rattle.lines.proofs.Marks.{getD-struck, length-struck, struck-cases}
+use Rattle.lines.proofs.Zeros.{mask-struck}
 use Rattle.lines.proofs.Laws.{kept-view, kept-line}
 use Rattle.lines.proofs.Bridge.{those-map, those-same, map-same, passing}
 use Rattle.desk.specs.declared.Machine.{Machine}
@@ -34,6 +35,7 @@ of-doomed ds f = tally (λ s. if marked ds s then f s else 0) base-slots
 abbrev pub killed : Machine → List Bool → Machine
 killed m ds = record {
   ids = struck ds (m .ids);
+  taken = m .taken - of-doomed ds (λ s. 2 ^ s);
   parents = struck ds (m .parents);
   priorities = struck ds (m .priorities);
   handles = struck ds (m .handles);
@@ -241,9 +243,14 @@ module _ (m : Machine) (g : Shape m) (n : ℕ) (ds : List Bool) (w : Marks (m .p
   blank-killed : (l : List ℕ) → ((s : ℕ) → s < base-slots → getD (m .ids) s 0 ≡ 0 → getD l s 0 ≡ 0) → (s : ℕ) → s < base-slots → getD (r .ids) s 0 ≡ 0 → getD (struck ds l) s 0 ≡ 0
   blank-killed l h s b e = by-fate (getD (struck ds l) s 0 ≡ 0) s (λ f. dead-entry l s f) (λ f. spared-at ds l s f ∙ h s b (sym (spared-at ds (m .ids) s f) ∙ e))
 
-  shape-killed : Shape r
-  shape-killed = record {
+  -- the bits of the doomed are among those taken, and what is left of them is the mask of the spared
+  pub bits-freed : 0 < n → takenMask base-slots (struck ds (m .ids)) + of-doomed ds (λ s. 2 ^ s) ≡ m .taken
+  bits-freed some = mask-struck base-slots (m .ids) ds (λ s b e. kin-alive (m .parents) (m .ids) n s some (sym (w .each s b) ∙ e)) ∙ sym (g .taken-mask)
+
+  shape-killed : 0 < n → Shape r
+  shape-killed some = record {
     ids-long = length-struck ds (m .ids) ∙ g .ids-long;
+    taken-mask = omega (arith, bits-freed some);
     parents-long = length-struck ds (m .parents) ∙ g .parents-long;
     priorities-long = length-struck ds (m .priorities) ∙ g .priorities-long;
     handles-long = length-struck ds (m .handles) ∙ g .handles-long;
@@ -279,5 +286,5 @@ module _ (m : Machine) (g : Shape m) (n : ℕ) (ds : List Bool) (w : Marks (m .p
       told = sym (mask-is some);
       gone = λ e. runner-fate ∙ rw e;
       stays = λ e. runner-fate ∙ rw e;
-      shape = shape-killed;
+      shape = shape-killed some;
     }

@@ -28,7 +28,7 @@ use Rattle.desk.proofs.Seats.{Seat, Waits, occ-self, occ-nobody, occ-se
 
 -- the same tables, but for who is where
 abbrev pub put-places : ℕ → List ℕ → ℕ → List ℕ → ℕ → List ℕ → Machine → Machine
-put-places r q n w k ls m = record { ids = m .ids; parents = m .parents; priorities = m .priorities; handles = m .handles; times = m .times; lines = ls; ready = q; nready = n; waits = w; nwaits = k; running = r; sems = m .sems; next = m .next; status = m .status; last = m .last; total = m .total; idle = m .idle; ended = m .ended }
+put-places r q n w k ls m = record { ids = m .ids; taken = m .taken; parents = m .parents; priorities = m .priorities; handles = m .handles; times = m .times; lines = ls; ready = q; nready = n; waits = w; nwaits = k; running = r; sems = m .sems; next = m .next; status = m .status; last = m .last; total = m .total; idle = m .idle; ended = m .ended }
 
 -- each slot is seated as often as before, and the codes are those of the waiting
 pub moved-shape : (m : Machine) → Shape m → (r : ℕ) (q : List ℕ) (n : ℕ) (w : List ℕ) (k : ℕ) (ls : List ℕ)
@@ -38,6 +38,7 @@ pub moved-shape : (m : Machine) → Shape m → (r : ℕ) (q : List ℕ) (n : �
     → Shape (put-places r q n w k ls m)
 moved-shape m g r q n w k ls runs ready waits long homes codes = record {
   ids-long = g .ids-long;
+  taken-mask = g .taken-mask;
   parents-long = g .parents-long;
   priorities-long = g .priorities-long;
   handles-long = g .handles-long;

@@ -2,7 +2,7 @@
 -- Assumes nothing.
 use mathlib.Core.Path.{_≡_, refl, sym, ap, ap₂, _∙_}
 use mathlib.Core.List.{List, [], _∷_, _++_, map, map-append}
-use Prim.Native.Nat.{ℕ, zero, suc, _+_, _<_, _≤_}
+use Prim.Native.Nat.{ℕ, zero, suc, _+_, _^_, _<_, _≤_}
 use native.Mathlib.Omega.{arith}
 use native.Mathlib.Decide.{ℕ-discrete}
 use lib.ListN.{getD, set, length-set}
@@ -10,8 +10,9 @@ use lib.Seq.{getD-set-same, getD-set-other}
 use Rattle.rules.specs.Numbers.{base-slots}
 use Rattle.rules.specs.Machine as book
 use Rattle.rules.specs.Machine.{Process, Waiter, newborn, birth, lowest-free}
-use Rattle.lines.specs.Lines.{occ, one}
+use Rattle.lines.specs.Lines.{occ, one, takenMask}
 use Rattle.lines.proofs.Occ.{one-same, one-other, occ-snoc}
+use Rattle.lines.proofs.Zeros.{mask-set, mask-fits}
 use Rattle.lines.proofs.Laws.{push-view, push-line}
 use Rattle.lines.proofs.Bridge.{occurring, map-same, each}
 use Rattle.desk.specs.declared.Machine.{Machine}
@@ -25,6 +26,7 @@ use Rattle.desk.proofs.Seats.{Seat, Waits, pos-live, occ-seats, seat, r
 abbrev pub born : Machine → ℕ → ℕ → ℕ → Machine
 born m s priority handle = record {
   ids = set (m .ids) s (m .next);
+  taken = m .taken + 2 ^ s;
   parents = set (m .parents) s (m .running + 1);
   priorities = set (m .priorities) s priority;
   handles = set (m .handles) s handle;
@@ -72,6 +74,13 @@ module _ (m : Machine) (g : Shape m) (h : m .running < base-slots) (s priority h
 
   pos : 0 < m .next
   pos = omega (arith, g .issued s b)
+
+  -- the newborn's bit joins those taken
+  bit-taken : takenMask base-slots (r .ids) ≡ takenMask base-slots (m .ids) + 2 ^ s
+  bit-taken = mask-set base-slots (m .ids) s (m .next) b (omega (arith, g .ids-long)) free pos
+
+  pub bit-fits : m .taken + 2 ^ s < 2 ^ base-slots
+  bit-fits = omega (arith, g .taken-mask, bit-taken, mask-fits base-slots (r .ids))
 
   id-of : getD (r .ids) s 0 ≡ m .next
   id-of = getD-set-same (m .ids) s (m .next) 0 (omega (arith, g .ids-long))
@@ -142,6 +151,7 @@ module _ (m : Machine) (g : Shape m) (h : m .running < base-slots) (s priority h
   pub born-shape : Shape r
   born-shape = record {
     ids-long = simp length-set (g .ids-long);
+    taken-mask = omega (arith, g .taken-mask, bit-taken);
     parents-long = simp length-set (g .parents-long);
     priorities-long = simp length-set (g .priorities-long);
     handles-long = simp length-set (g .handles-long);

@@ -31,7 +31,7 @@ busy-events : List Event
 busy-events = call 1 1 0 0 0 ∷ call 2 1 0 1 7 ∷ call 3 1 0 0 0 ∷ call 4 1 0 0 0 ∷ call 5 3 0 0 0 ∷ call 6 5 5 0 0 ∷ call 7 7 0 0 0 ∷ []
 
 pub busy : Machine
-busy = record { ids = 1 ∷ 2 ∷ 3 ∷ 4 ∷ 5 ∷ zeros 15; parents = 0 ∷ 1 ∷ 1 ∷ 1 ∷ 1 ∷ zeros 15; priorities = 0 ∷ 0 ∷ 1 ∷ zeros 17; handles = 0 ∷ 0 ∷ 7 ∷ zeros 17; times = 5 ∷ 1 ∷ 1 ∷ zeros 17; lines = 1 ∷ 38 ∷ 81 ∷ zeros 17; ready = 4 ∷ zeros 19; nready = 1; waits = 0 ∷ 1 ∷ 2 ∷ zeros 17; nwaits = 3; running = 3; sems = zeros base-sems; next = 6; status = 0; last = 7; total = 7; idle = 0; ended = 0 }
+busy = record { ids = 1 ∷ 2 ∷ 3 ∷ 4 ∷ 5 ∷ zeros 15; taken = 31; parents = 0 ∷ 1 ∷ 1 ∷ 1 ∷ 1 ∷ zeros 15; priorities = 0 ∷ 0 ∷ 1 ∷ zeros 17; handles = 0 ∷ 0 ∷ 7 ∷ zeros 17; times = 5 ∷ 1 ∷ 1 ∷ zeros 17; lines = 1 ∷ 38 ∷ 81 ∷ zeros 17; ready = 4 ∷ zeros 19; nready = 1; waits = 0 ∷ 1 ∷ 2 ∷ zeros 17; nwaits = 3; running = 3; sems = zeros base-sems; next = 6; status = 0; last = 7; total = 7; idle = 0; ended = 0 }
 
 pub busy-possible : Possible On (3 ∷ []) (4 ∷ []) (Semaphore 0 ∷ Device 5 ∷ PseudoClock ∷ []) busy
 unfolding busy busy-events rule-book climb decode trial
@@ -48,7 +48,7 @@ idle-events : List Event
 idle-events = call 4 7 0 0 0 ∷ Interrupt 9 3 1 0 ∷ []
 
 pub idling : Machine
-idling = record { ids = 1 ∷ zeros 19; parents = zeros base-slots; priorities = zeros base-slots; handles = zeros base-slots; times = 4 ∷ zeros 19; lines = 81 ∷ zeros 19; ready = zeros base-slots; nready = 0; waits = zeros base-slots; nwaits = 1; running = base-slots; sems = zeros base-sems; next = 2; status = 0; last = 9; total = 9; idle = 5; ended = 0 }
+idling = record { ids = 1 ∷ zeros 19; taken = 1; parents = zeros base-slots; priorities = zeros base-slots; handles = zeros base-slots; times = 4 ∷ zeros 19; lines = 81 ∷ zeros 19; ready = zeros base-slots; nready = 0; waits = zeros base-slots; nwaits = 1; running = base-slots; sems = zeros base-sems; next = 2; status = 0; last = 9; total = 9; idle = 5; ended = 0 }
 
 pub idling-possible : Possible On [] [] (PseudoClock ∷ []) idling
 unfolding idling idle-events rule-book climb decode trial
@@ -65,7 +65,7 @@ halt-events : List Event
 halt-events = call 3 2 0 0 0 ∷ []
 
 pub halted : Machine
-halted = record { ids = zeros base-slots; parents = zeros base-slots; priorities = zeros base-slots; handles = zeros base-slots; times = zeros base-slots; lines = zeros base-slots; ready = zeros base-slots; nready = 0; waits = zeros base-slots; nwaits = 0; running = base-slots; sems = zeros base-sems; next = 2; status = 1; last = 3; total = 3; idle = 0; ended = 3 }
+halted = record { ids = zeros base-slots; taken = 0; parents = zeros base-slots; priorities = zeros base-slots; handles = zeros base-slots; times = zeros base-slots; lines = zeros base-slots; ready = zeros base-slots; nready = 0; waits = zeros base-slots; nwaits = 0; running = base-slots; sems = zeros base-sems; next = 2; status = 1; last = 3; total = 3; idle = 0; ended = 3 }
 
 pub halted-possible : Possible Halted [] [] [] halted
 unfolding halted halt-events rule-book climb decode trial
@@ -82,7 +82,7 @@ panic-events : List Event
 panic-events = call 4 3 31 0 0 ∷ []
 
 pub panicked : Machine
-panicked = record { ids = 1 ∷ zeros 19; parents = zeros base-slots; priorities = zeros base-slots; handles = zeros base-slots; times = 4 ∷ zeros 19; lines = 32 ∷ zeros 19; ready = zeros base-slots; nready = 0; waits = zeros base-slots; nwaits = 1; running = base-slots; sems = zeros base-sems; next = 2; status = 2; last = 4; total = 4; idle = 0; ended = 0 }
+panicked = record { ids = 1 ∷ zeros 19; taken = 1; parents = zeros base-slots; priorities = zeros base-slots; handles = zeros base-slots; times = 4 ∷ zeros 19; lines = 32 ∷ zeros 19; ready = zeros base-slots; nready = 0; waits = zeros base-slots; nwaits = 1; running = base-slots; sems = zeros base-sems; next = 2; status = 2; last = 4; total = 4; idle = 0; ended = 0 }
 
 pub panicked-possible : Possible Panicked [] [] (Semaphore 31 ∷ []) panicked
 unfolding panicked panic-events rule-book climb decode trial

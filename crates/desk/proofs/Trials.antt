@@ -11,7 +11,7 @@ use lib.ListN.{length, take, drop, getD, replicate}
 use borrow.Author.Tests.{eqb-true, leb-true, ltb-true, eq-eqb, lt-ltb}
 use Rattle.rules.specs.Cases.{All, and-left, and-right}
 use Rattle.rules.specs.Numbers.{base-slots, base-sems, time-limit}
-use Rattle.lines.specs.Lines.{Line, occ, entry, tally}
+use Rattle.lines.specs.Lines.{Line, occ, entry, tally, takenMask}
 use Rattle.desk.specs.declared.Machine.{Machine}
 use Rattle.desk.specs.Codes.{last-code}
 use Rattle.desk.specs.View.{waiters, seats, live, Parent, Shape}
@@ -134,6 +134,7 @@ machine-tests m =
     ∷ eqb (m .idle + m .ended + tally (entry (m .times)) base-slots) (m .total)
     ∷ leb (m .total) time-limit
     ∷ all-below (λ s. all-true (slot-tests m s)) base-slots
+    ∷ eqb (m .taken) (takenMask base-slots (m .ids))
     ∷ []
 
 -- the layout but for the number of semaphores
@@ -151,6 +152,7 @@ module _ (m : Machine) (sems : length (m .sems) ≡ base-sems) (holds : laid-out
   pub tested : Shape m
   tested = record {
     ids-long = eqb-true (length (m .ids)) base-slots (whole .0);
+    taken-mask = eqb-true (m .taken) (takenMask base-slots (m .ids)) (whole .1 .1 .1 .1 .1 .1 .1 .1 .1 .1 .1 .1 .1 .0);
     parents-long = eqb-true (length (m .parents)) base-slots (whole .1 .0);
     priorities-long = eqb-true (length (m .priorities)) base-slots (whole .1 .1 .0);
     handles-long = eqb-true (length (m .handles)) base-slots (whole .1 .1 .1 .0);
@@ -176,5 +178,5 @@ module _ (m : Machine) (sems : length (m .sems) ≡ base-sems) (holds : laid-out
 
 -- to unfold this is to unfold every test
 unfoldable pub trial : Unit {0}
-unfolding laid-out all-below all-true same-list occ tally
+unfolding laid-out all-below all-true same-list occ tally takenMask
 trial = tt

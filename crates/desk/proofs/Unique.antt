@@ -16,7 +16,7 @@ use Rattle.rules.specs.Numbers.{base-slots}
 use Rattle.rules.specs.Machine as book
 use Rattle.rules.specs.Machine.{Process, Waiter, living, Status, On, Halted, Panicked}
 use Rattle.rules.specs.Answers.{Outcome}
-use Rattle.lines.specs.Lines.{occ}
+use Rattle.lines.specs.Lines.{occ, takenMask}
 use Rattle.lines.proofs.Laws.{line-unique}
 use Rattle.lines.proofs.Bridge.{row-at}
 use Rattle.desk.specs.declared.Machine.{Machine}
@@ -153,6 +153,7 @@ module _ (a b : Machine) (g : Shape a) (h : Shape b) (e : view a ≡ view b) whe
       let ready = line-unique (g .ready-line) (h .ready-line) readies-same in
       let waits = line-unique (g .waits-line) (h .waits-line) waiters-same in
       let ids = array (a .ids) (b .ids) (g .ids-long) (h .ids-long) ids-same in
+      let taken : a .taken ≡ b .taken = g .taken-mask ∙ ap (takenMask base-slots) ids ∙ sym (h .taken-mask) in
       let parents = array (a .parents) (b .parents) (g .parents-long) (h .parents-long) parents-same in
       let priorities = array (a .priorities) (b .priorities) (g .priorities-long) (h .priorities-long) (each _ (λ s p q r. ap (λ (x : Process). x .priority) r) (λ s k x y. g .no-priority s k x ∙ sym (h .no-priority s k y))) in
       let handles = array (a .handles) (b .handles) (g .handles-long) (h .handles-long) (each _ (λ s p q r. ap (λ (x : Process). x .handle) r) (λ s k x y. g .no-handle s k x ∙ sym (h .no-handle s k y))) in
@@ -161,6 +162,7 @@ module _ (a b : Machine) (g : Shape a) (h : Shape b) (e : view a ≡ view b) whe
       let status = status-one (a .status) (b .status) (g .status) (h .status) (ap (λ (m : book.Machine). m .status) e) in
       λ i. record {
         ids = ids i;
+        taken = taken i;
         parents = parents i;
         priorities = priorities i;
         handles = handles i;

@@ -10,7 +10,7 @@ use Rattle.rules.specs.Machine.{Process, Waiter}
 use Rattle.rules.specs.Numbers.{base-slots, base-sems, time-limit}
 use Rattle.rules.specs.Words.{if_then_else_, among}
 use Rattle.rules.specs.Tables.{Tables}
-use Rattle.lines.specs.Lines.{Line, occ, entry, tally}
+use Rattle.lines.specs.Lines.{Line, occ, entry, tally, takenMask}
 use Rattle.desk.specs.declared.Machine.{Machine}
 use Rattle.desk.specs.Codes.{decode, last-code, status-of}
 
@@ -92,6 +92,7 @@ Kin parents ids = (s p : ℕ) → s < base-slots → getD parents s 0 ≡ suc p 
 -- a line's code exactly where a slot waits; parents alive and older; zeros in free rows; and the times of all slots, idle and ended add up
 pub record Shape (m : Machine) : Type 0 where
   pub ids-long : length (m .ids) ≡ base-slots
+  pub taken-mask : m .taken ≡ takenMask base-slots (m .ids)
   pub parents-long : length (m .parents) ≡ base-slots
   pub priorities-long : length (m .priorities) ≡ base-slots
   pub handles-long : length (m .handles) ≡ base-slots

@@ -17,6 +17,7 @@ use crate::so_far;
 use lines::Found;
 use lines::find_id;
 use lines::lowest_free;
+use lines::power;
 use lines::push;
 use rules::Cause;
 use rules::Mode;
@@ -79,7 +80,7 @@ impl Machine {
         if Machine::TOP < id {
             return self.replies(Result::Says(-1));
         }
-        let Found::At(s) = lowest_free(&self.ids) else {
+        let Found::At(s) = lowest_free(self.taken) else {
             return self.replies(Result::Says(-1));
         };
         let at = self.running;
@@ -88,6 +89,7 @@ impl Machine {
         push(&mut self.ready, n, slot);
         self.nready = n + 1;
         self.ids[s] = id;
+        self.taken = self.taken + power(s);
         self.parents[s] = at as u8 + 1;
         self.priorities[s] = a2;
         self.handles[s] = a3;

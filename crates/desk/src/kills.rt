@@ -68,6 +68,7 @@ impl Machine {
         let bits = mask(&doomed);
         let time = toll(&self.times, &doomed);
         self.ended = self.ended + time;
+        self.taken = self.taken - bits;
         let at = self.running;
         self.running = spared(at, &doomed);
         strike(&mut self.ids, &doomed);

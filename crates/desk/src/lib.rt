@@ -17,11 +17,12 @@ pub mod looks;
 mod schedules;
 mod starts;
 
-// By slot: ids (0 is free), the parent's slot and one more (0 is none), priorities, handles, times, and the code of the
+// By slot: ids (0 is free), with the taken slots as a mask beside them; the parent's slot and one more (0 is none), priorities, handles, times, and the code of the
 // line that a slot waits in (0 is none). The ready line and the waiting, slots in order, each with its length. Who runs
 // (the number of slots stands for nobody). Free rows and unused places are zero.
 pub struct Machine {
     ids: [u32; SLOTS],
+    taken: u64,
     parents: [u8; SLOTS],
     priorities: [u32; SLOTS],
     handles: [u32; SLOTS],

@@ -35,6 +35,7 @@ impl Machine {
         ids[0] = 1;
         Machine {
             ids: ids,
+            taken: 1,
             parents: [0; SLOTS],
             priorities: [0; SLOTS],
             handles: [0; SLOTS],
@@ -61,6 +62,7 @@ impl Machine {
     {
         Machine {
             ids: [0; SLOTS],
+            taken: 0,
             parents: [0; SLOTS],
             priorities: [0; SLOTS],
             handles: [0; SLOTS],

@@ -3,7 +3,7 @@
 use mathlib.Core.Path.{_≡_}
 use mathlib.Core.Bool.{Bool, false, not}
 use mathlib.Core.List.{List, [], _∷_, _++_, map}
-use Prim.Native.Nat.{ℕ, zero, suc, _+_, _-_, _<_, _≤_}
+use Prim.Native.Nat.{ℕ, zero, suc, _+_, _-_, _^_, _<_, _≤_}
 use lib.ListN.{length, take, drop, getD, replicate}
 use lib.Dec.{eqb, ltb, leb}
 use Rattle.rules.specs.Words.{if_then_else_, those}
@@ -105,3 +105,7 @@ marksAt ls v = map (λ c. eqb c v) ls
 -- whoever runs, or k where it is doomed or nobody
 unfoldable pub sparedOf : ℕ → List Bool → ℕ → ℕ
 sparedOf k ds at = if leb k at then at else (if marked ds at then k else at)
+
+-- the taken slots as a mask, "bit n for slot n": the slots below k whose id is not zero
+unfoldable pub takenMask : ℕ → List ℕ → ℕ
+takenMask k ids = tally (λ s. if isZero (entry ids s) then 0 else 2 ^ s) k

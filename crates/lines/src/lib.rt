@@ -1,10 +1,11 @@
 // Lines of slots kept in arrays: the first n places are the line, the others are zero.
 ghost use mathlib.Core.Path.{_≡_};
-ghost use Prim.Native.Nat.{_+_, _^_, _<_, _≤_};
+ghost use mathlib.Core.List.{List};
+ghost use Prim.Native.Nat.{ℕ, _+_, _^_, _<_, _≤_};
 ghost use lib.ListN.{length, set, take};
 ghost use Rattle.rules.specs.Words.{if_then_else_, those};
 ghost use Rattle.rules.specs.Numbers.{base-slots, time-limit};
-ghost use Rattle.lines.specs.Lines.{InSlots, removed, joined, cleared, kept, entry, marked, alive, inLine, aboveLine, isZero, isId, firstWhere, tally, struck, marksAt, sparedOf};
+ghost use Rattle.lines.specs.Lines.{InSlots, removed, joined, cleared, kept, entry, marked, alive, inLine, aboveLine, isZero, isId, firstWhere, tally, struck, marksAt, sparedOf, takenMask};
 
 // "20 slots, 0 to 19."
 pub const SLOTS: usize = 20;
@@ -274,10 +275,14 @@ pub fn find_id(ids: &[u32; SLOTS], id: u32) -> Found
     Found::Nothing
 }
 
-// The least slot whose id is zero: "a newborn gets the lowest free one".
-pub fn lowest_free(ids: &[u32; SLOTS]) -> Found
-    requires { ⌜ length (now ids) ≡ base-slots ⌝ }
-    ensures { λ r. ⌜ r ≡ firstWhere isZero 0 (now (ids .entry)) ⌝ }
+// The least slot whose id is zero, "a newborn gets the lowest free one", by the processor's own count of zeros: the
+// mask has a bit for each slot whose id is not zero, whatever else the table holds.
+pub fn lowest_free(taken: u64) -> Found
+    ensures { λ r. ⌜ ((ids : List ℕ) → length ids ≡ base-slots → taken ≡ takenMask base-slots ids → r ≡ firstWhere isZero 0 ids) ⌝ }
 {
-    find_id(ids, 0)
+    let s = u64::trailing_zeros(!taken) as usize;
+    if SLOTS <= s {
+        return Found::Nothing;
+    }
+    Found::At(s)
 }

@@ -1,10 +1,10 @@
 -- `Machine::kill` meets its contract.
 use mathlib.Core.Path.{sym, subst}
-use Prim.Native.Nat.{_+_}
+use Prim.Native.Nat.{_+_, _-_}
 use native.Mathlib.Omega.{arith}
 use borrow.Author.Needs.{needs}
 use Rattle.desk.specs.Contracts.{Kills}
-use Rattle.desk.proofs.Doomed.{kill-step, toll-fits}
+use Rattle.desk.proofs.Doomed.{kill-step, toll-fits, bits-freed}
 use Rattle.desk.proofs.Machine.kill.Statement.{statement}
 use Rattle.desk.proofs.Machine.kill.Tie as tie
 
@@ -25,6 +25,11 @@ add-self c =
     let st = c .before .before .before .before .before .before .before .before .before .before in
     let f = c .before .before .before .before .before .before .family in
     omega (arith, c .toll .ensures, toll-fits (st .args .t1) (st .pre .0) (st .args .id) (f .result) (f .ensures))
+
+sub-self : tie.Need-sub-self
+sub-self c =
+    let st = c .before .before .before .before .before .before .before .before .before .before in
+    omega (arith, c .before .before .before .before .mask .ensures, bits-freed (st .args .t1) (st .pre .0) (st .args .id) (c .before .before .before .before .before .before .family .result) (c .before .before .before .before .before .before .family .ensures) (st .pre .2))
 
 spared-requires : tie.Need-spared-requires
 spared-requires c κs = search needs
@@ -66,6 +71,7 @@ returns c =
     (λ i. record {
       machine = record {
         ids = sym (c .before .before .before .before .before .before .before .before .before .before .before .before .before .before .before .before .before .before .before .before .before .strike .ensures) i;
+        taken = m .taken - sym (c .before .before .before .before .before .before .before .before .before .before .before .before .before .before .before .before .before .before .before .before .before .before .before .before .before .before .before .before .before .before .mask .ensures) i;
         parents = sym (c .before .before .before .before .before .before .before .before .before .before .before .before .before .before .before .before .before .before .strike-bytes .ensures) i;
         priorities = sym (c .before .before .before .before .before .before .before .before .before .before .before .before .before .before .before .strike2 .ensures) i;
         handles = sym (c .before .before .before .before .before .before .before .before .before .before .before .before .strike3 .ensures) i;
@@ -96,6 +102,7 @@ kill-spec =
     mask-requires
     toll-requires
     add-self
+    sub-self
     spared-requires
     strike-requires
     strike-bytes-requires
