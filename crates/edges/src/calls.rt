@@ -308,7 +308,7 @@ exception 1500 0
     );
 }
 
-pub fn all() {
+pub(crate) fn all() {
     create();
     terminate();
     family();

@@ -327,7 +327,7 @@ fill 65537
     );
 }
 
-pub fn all() {
+pub(crate) fn all() {
     first_cut_or_unknown();
     first_refused();
     later_cut();

@@ -140,7 +140,7 @@ kernel 1400 -7
     );
 }
 
-pub fn all() {
+pub(crate) fn all() {
     device_calls();
     device_lines();
     sub_devices();

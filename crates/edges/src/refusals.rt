@@ -90,7 +90,7 @@ kernel 1100 -6
     );
 }
 
-pub fn all() {
+pub(crate) fn all() {
     lines();
     codes_and_clock();
     nobody_and_order();

@@ -161,7 +161,7 @@ exception 1050 11
     );
 }
 
-pub fn all() {
+pub(crate) fn all() {
     example();
     creates();
     gaps();

@@ -1,7 +1,7 @@
 // The demonstration of source document 004 (section 4.7.2): main_body starts two workers, and each signals when it has counted.
 
 // A worker carries on after its signal, since nobody is preempted: it ends before main_body goes on.
-pub fn demonstration() {
+pub(crate) fn demonstration() {
     play::play(
         b"# document 004, its demonstration: two workers count, one after the other
 start 1000 ; semaphore 0 is end_count, made with value 0
@@ -38,7 +38,7 @@ kernel 2120 -2 0
 }
 
 // "The named process and all descendants end"
-pub fn difference() {
+pub(crate) fn difference() {
     play::play(
         b"# where 004 differs: its main ends at once and main_body lives on; here a child ends with its parent
 start 1000

@@ -1,7 +1,7 @@
 // The day of the accident.
 
 // One customer fills the table; the alarm's process gets a slot again once one of the flood is killed.
-pub fn accident() {
+pub(crate) fn accident() {
     play::play(
         b"# the day of the accident: a flood of creates, and an alarm
 start 1000
