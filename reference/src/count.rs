@@ -1,6 +1,6 @@
 //! How often each kind of event, answer and situation comes up over some seeds.
 
-use crate::desk::{Answer, Call, Desk, Event, Interrupt, Kind, Mode, GAP_MAX, SLOTS, VALUE_MAX};
+use crate::desk::{Action, Answer, Call, Desk, Event, Interrupt, Kind, Mode, GAP_MAX, SLOTS, VALUE_MAX};
 use crate::log::{Log, LogRefusal};
 use crate::{damage, generate, line, log};
 use std::collections::BTreeMap;
@@ -36,7 +36,8 @@ const NAMES: &[(&str, &[&str])] = &[
     ("P", &["through", "waits", "odd number"]),
     ("V", &["raises", "wakes", "at the top", "odd number"]),
     ("I/O", &["waits", "odd number"]),
-    ("terminate", &["caller", "by own id", "ancestor", "another"]),
+    ("terminate", &["caller", "by own id", "ancestor"]),
+    ("terminate", &["another, others ready", "another, nobody else ready", "the killer's turn"]),
     ("terminate", &["nobody alive", "2147483648 or more"]),
     ("tick", &["for nobody", "for one", "for several"]),
     ("death", &["alone", "with descendants"]),
@@ -74,12 +75,14 @@ impl Count {
             Err(refusal) => return self.add("log", refusal.reason as u8),
         };
         let mut desk = start.desk();
+        let mut killer = None;
         for event in events {
             match event {
                 Ok(event) => {
                     let before = desk.clone();
                     let answer = desk.event(&event);
                     self.event(&before, &event, &answer);
+                    killer = self.turn(killer, &before, &answer);
                 }
                 Err(refusal) => return self.add("log", refusal.reason as u8),
             }
@@ -191,7 +194,10 @@ impl Count {
     fn terminate(&mut self, before: &Desk, call: &Call, answer: &Answer) {
         let own = before.running.map(|slot| before.process(slot).id);
         let name = match answer.result {
-            Some(0) => "another",
+            Some(0) if before.ready.iter().all(|slot| answer.ended >> slot & 1 == 1) => {
+                "another, nobody else ready"
+            }
+            Some(0) => "another, others ready",
             Some(_) if call.a1 > i32::MAX as u32 => "2147483648 or more",
             Some(_) => "nobody alive",
             None if call.a1 == 0 => "caller",
@@ -199,6 +205,19 @@ impl Count {
             None => "ancestor",
         };
         self.add("terminate", name);
+    }
+
+    /// The last killer that went behind others, until its turn comes or it ends.
+    fn turn(&mut self, killer: Option<usize>, before: &Desk, answer: &Answer) -> Option<usize> {
+        if answer.killer_survives() {
+            return before.running.filter(|&slot| answer.action != Action::Run(slot));
+        }
+        let killer = killer.filter(|slot| answer.ended >> slot & 1 == 0)?;
+        if answer.action != Action::Run(killer) {
+            return Some(killer);
+        }
+        self.add("terminate", "the killer's turn");
+        None
     }
 
     /// An accepted interrupt.
@@ -231,28 +250,31 @@ impl Count {
 mod tests {
     use super::*;
 
-    /// `generate --count 1..400` prints these and more: 120,035 events in 400 logs.
+    /// `generate --count 1..400` prints these and more: 123,879 events in 400 logs.
     const AT_THE_GATE: &[(&str, u64)] = &[
-        ("refusal: 0", 89_789),
-        ("refusal: 1", 12_976),
-        ("refusal: 2", 7_690),
-        ("refusal: 4", 4_558),
-        ("refusal: 5", 2_996),
-        ("refusal: 6", 2_026),
-        ("action: on", 49_527),
-        ("action: run", 22_097),
-        ("action: wait", 10_436),
-        ("action: halt", 40),
-        ("action: panic", 43),
-        ("action: up0", 1_052),
-        ("action: up1", 6_594),
-        ("log: whole", 215),
+        ("refusal: 0", 92_100),
+        ("refusal: 1", 16_917),
+        ("refusal: 2", 7_185),
+        ("refusal: 4", 3_141),
+        ("refusal: 5", 2_702),
+        ("refusal: 6", 1_834),
+        ("action: on", 48_055),
+        ("action: run", 25_824),
+        ("action: wait", 11_173),
+        ("action: halt", 53),
+        ("action: panic", 38),
+        ("action: up0", 1_013),
+        ("action: up1", 5_944),
+        ("terminate: another, others ready", 911),
+        ("terminate: another, nobody else ready", 342),
+        ("terminate: the killer's turn", 744),
+        ("log: whole", 217),
         ("log: 20", 26),
-        ("log: 21", 27),
-        ("log: 22", 35),
+        ("log: 21", 25),
+        ("log: 22", 34),
         ("log: 23", 50),
         ("log: 24", 15),
-        ("log: 25", 16),
+        ("log: 25", 17),
         ("log: 26", 16),
     ];
 

@@ -99,6 +99,11 @@ impl Answer {
     fn result(action: Action, result: i64) -> Self {
         Answer { result: Some(result), ..Answer::new(action) }
     }
+
+    /// A terminate with a valid target whose caller lives on: no other answer has an end and a result.
+    pub(crate) fn killer_survives(&self) -> bool {
+        self.ended != 0 && self.result.is_some()
+    }
 }
 
 /// Where a process that isn't running stands.
@@ -131,7 +136,7 @@ pub struct ValueTooLarge;
 pub struct Desk {
     slots: [Option<Process>; SLOTS],
     pub(crate) running: Option<usize>,
-    ready: VecDeque<usize>,
+    pub(crate) ready: VecDeque<usize>,
     pub(crate) values: [u32; SEMAPHORES],
     pub(crate) semaphores: [VecDeque<usize>; SEMAPHORES],
     pub(crate) nucleus: [VecDeque<usize>; NUCLEUS_LINES],
@@ -275,10 +280,16 @@ impl Desk {
         };
         let ended = self.end(slot);
         let answer = match self.running {
-            Some(_) => Answer::result(Action::On(caller), 0),
+            Some(_) => self.goes_behind(caller),
             None => Answer::new(self.schedule()),
         };
         Answer { ended, ..answer }
+    }
+
+    /// "a surviving caller with a valid target goes to the end of its ready line with result 0,
+    /// then schedule"
+    fn goes_behind(&mut self, caller: usize) -> Answer {
+        Answer { result: Some(0), ..self.leave(caller, Line::Ready) }
     }
 
     fn p(&mut self, caller: usize, number: usize) -> Answer {

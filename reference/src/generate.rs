@@ -13,7 +13,7 @@ type Topic = fn(&mut Generator) -> Kind;
 /// How often a topic comes up in logs, where much goes wrong, and in streams: a busy gateway.
 const MIX: [(Topic, u32, u32); 20] = [
     (|g| g.kernel(-1, Generator::few), 14, 30),
-    (|g| g.kernel(-2, Generator::target), 5, 15),
+    (|g| g.kernel(-2, Generator::target), 8, 15),
     (|g| g.p_or_v(-3), 14, 160),
     (|g| g.p_or_v(-4), 12, 150),
     (|g| g.kernel(-5, Generator::io_device), 9, 140),
@@ -21,11 +21,11 @@ const MIX: [(Topic, u32, u32); 20] = [
     (|g| g.kernel(-7, Generator::few), 4, 40),
     (|g| g.kernel(-8, Generator::few), 2, 20),
     (|g| g.kernel(-9, Generator::few), 3, 30),
-    (|g| g.kernel(-10, Generator::few), 4, 40),
+    (Generator::yields, 4, 40),
     (Generator::user_call, 2, 2),
     (Generator::unknown_call, 3, 2),
     (Generator::passed_up, 2, 60),
-    (|g| interrupt(1, g.rng.byte() & 1, g.rng.byte() & 1), 4, 40),
+    (Generator::slice_end, 4, 40),
     (Generator::tick, 4, 40),
     (Generator::device, 12, 170),
     (Generator::odd_line, 3, 2),
@@ -46,6 +46,8 @@ pub struct Generator {
     devices: [u32; 5],
     /// So many events come before one that ends the machine.
     careful: usize,
+    /// So many turns, after a kill that its caller survived, show who is behind whom.
+    turns: usize,
 }
 
 /// The log of a seed: `count` events, or as many as 65,536 bytes hold.
@@ -94,7 +96,7 @@ impl Generator {
         let start = Start { clock: rng.pick(&[0, 1000, clock, u32::MAX - clock % 4096]), values };
         let desk = start.desk();
         let mix = MIX.map(|(topic, _, often)| (topic, often)).to_vec();
-        Generator { start, rng, desk, mix, stream: true, semaphores, devices, careful: usize::MAX }
+        Generator { start, rng, desk, mix, stream: true, semaphores, devices, careful: usize::MAX, turns: 0 }
     }
 
     /// The next event: tries some until one leaves the machine alive, as long as it should be.
@@ -104,8 +106,11 @@ impl Generator {
             let topic = self.topic();
             let event = Event { clock, kind: topic(self) };
             let mut after = self.desk.clone();
-            after.event(&event);
+            let answer = after.event(&event);
             if !after.over || self.careful == 0 {
+                if answer.killer_survives() && !self.stream {
+                    self.turns = after.ready.len();
+                }
                 self.desk = after;
                 self.careful = self.careful.saturating_sub(1);
                 return event;
@@ -131,6 +136,12 @@ impl Generator {
         let idle = self.desk.running.is_none() && !self.desk.over;
         if idle && !self.rng.one_in(if self.stream { 500 } else { 4 }) {
             return if self.rng.one_in(4) { Generator::tick } else { Generator::device };
+        }
+        if self.turns > 0 {
+            self.turns -= 1;
+            if !self.rng.one_in(4) {
+                return self.rng.pick(&[Generator::yields, Generator::slice_end]);
+            }
         }
         let sum = self.mix.iter().map(|(_, often)| often).sum();
         let mut place = self.rng.below(sum);
@@ -227,6 +238,10 @@ impl Generator {
         self.call(Mode::Kernel, a0, a1)
     }
 
+    fn yields(&mut self) -> Kind {
+        self.kernel(-10, Generator::few)
+    }
+
     fn user_call(&mut self) -> Kind {
         let a0 = -(self.rng.below(12) as i32);
         let a1 = self.few();
@@ -248,6 +263,10 @@ impl Generator {
     }
 
     // Interrupts and exceptions.
+
+    fn slice_end(&mut self) -> Kind {
+        interrupt(1, self.rng.byte() & 1, self.rng.byte() & 1)
+    }
 
     fn tick(&mut self) -> Kind {
         interrupt(2, self.rng.byte() & 1, self.rng.byte() & 1)

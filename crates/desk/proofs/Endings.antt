@@ -11,7 +11,7 @@ use lib.IntN.{pos, negsuc}
 use lib.ListN.{getD}
 use borrow.Author.Tests.{eq-eqb, ne-eqb, eqb-true, eqb-false}
 use Rattle.rules.specs.declared.Cause.{Cause}
-use Rattle.rules.specs.declared.Action.the-variants.{CarryOn, PassUp, Nothing}
+use Rattle.rules.specs.declared.Action.the-variants.{PassUp, Nothing}
 use Rattle.rules.specs.declared.Result.{Result}
 use Rattle.rules.specs.declared.Result.the-variants.{Silent, Says}
 use Rattle.rules.specs.declared.Part.the-variants.{Absent}
@@ -20,8 +20,8 @@ use Rattle.rules.specs.Words.{if_then_else_, first, those, any}
 use Rattle.rules.specs.Cases.{All}
 use Rattle.rules.specs.Numbers.{base-slots}
 use Rattle.rules.specs.Machine as book
-use Rattle.rules.specs.Machine.{Process, living, named, family, family-of, kill}
-use Rattle.rules.specs.Answers.{Outcome, plain, doing, giving, ending}
+use Rattle.rules.specs.Machine.{Process, living, named, family, family-of, kill, back}
+use Rattle.rules.specs.Answers.{Outcome, mask, plain, doing, giving, ending}
 use Rattle.rules.specs.Rules.{schedule, carry-on, die, pass-up-or-die, terminate}
 use Rattle.lines.specs.Lines.{firstWhere, isId, occ}
 use Rattle.lines.specs.declared.Found.the-variants as found
@@ -41,11 +41,15 @@ use Rattle.desk.proofs.Choosing.{comes-by}
 abbrev pub telling : Result → ℕ → Answer
 telling x e = record { refusal = 0; action = Nothing; result = x; newborn = Absent; device = Absent; woken = 0; ended = e }
 
+-- what follows a kill, said of the machine that is left
+after-kill : (f : Answer → book.Machine → Outcome) (z : Result) (n : ℕ) (m : Machine) (k : Killed) → Kills n m k → (x : Answer) → x ≡ telling z (k .ended)
+    → f (telling z (mask (family-of n (view m)))) (kill n (view m)) ≡ f x (view (k .machine))
+after-kill f z n m k t x e = (λ i. f (telling z (sym (t .told) i)) (sym (t .seen) i)) ∙ ap (λ (y : Answer). f y (view (k .machine))) (sym e)
+
 -- the named end with whoever runs, and schedule
 pub dies : (n : ℕ) (m : Machine) (k : Killed) → Kills n m k → (x : Answer) → x ≡ telling Silent (k .ended) → (r : Answered) → Comes (schedule x (view (k .machine))) r → Comes (die n (view m)) r
 unfolding die
-dies n m k t x e r c =
-    comes-by _ _ r ((λ i. schedule (telling Silent (sym (t .told) i)) (sym (t .seen) i)) ∙ ap (λ (y : Answer). schedule y (view (k .machine))) (sym e)) c
+dies n m k t x e r c = comes-by _ _ r (after-kill schedule Silent n m k t x e) c
 
 abbrev caller : Machine → Process
 caller m = row m (m .running)
@@ -82,7 +86,7 @@ by-id f none n (p ∷ ps) = go (eqb n (p .id)) refl (by-id f none n ps)
 
 -- what becomes of the caller where who has the id ends
 abbrev ends-with : ℕ → Process → book.Machine → Outcome
-ends-with n p m = if family n p then die n m else carry-on p (giving (pos 0) (ending (family-of n m) plain)) (kill n m)
+ends-with n p m = if family n p then die n m else schedule (giving (pos 0) (ending (family-of n m) plain)) (back (kill n m))
 
 terminate-by : (p : Process) (a1 n : ℕ) (m : book.Machine) → n ≡ (if eqb a1 0 then p .id else a1)
     → terminate p a1 0 0 m ≡ (if any (named n) (living m) then ends-with n p m else carry-on p (giving (negsuc 0) plain) m)
@@ -150,19 +154,15 @@ module _ (m : Machine) (g : Shape m) (runs : m .running < base-slots) (a1 n : �
     ends-found : terminate (caller m) a1 0 0 (view m) ≡ ends-with n (caller m) (view m)
     ends-found = terminate-by (caller m) a1 n (view m) e ∙ rw (found-named m g n named-pos i h)
 
-    -- "if the caller survives it carries on with result 0"
-    pub ends-other : k .machine .running < base-slots → x ≡ telling (Says (pos 0)) (k .ended) → Comes (carry-on (row (k .machine) (k .machine .running)) x (view (k .machine))) r
+    -- 02, (ix): "a surviving caller with a valid target goes to the end of its ready line with result 0, then schedule"
+    pub ends-other : k .machine .running < base-slots → x ≡ telling (Says (pos 0)) (k .ended) → Comes (schedule x (back (view (k .machine)))) r
         → Comes (terminate (caller m) a1 0 0 (view m)) r
-    unfolding carry-on family
+    unfolding family
     ends-other b q c = go (kin (m .parents) (m .ids) n (m .running)) refl
       where
         go : (d : Bool) → kin (m .parents) (m .ids) n (m .running) ≡ d → Comes (terminate (caller m) a1 0 0 (view m)) r
         go true f = absurd (omega (arith, t .gone f))
-        go false f =
-            comes-by _ _ r (ends-found ∙ rw f (λ j. record {
-              after = sym (t .seen) j;
-              answer = doing (CarryOn (sym (t .stays f) j)) (telling (Says (pos 0)) (sym (t .told) j));
-            }) ∙ ap (λ (y : Answer). record { after = view (k .machine); answer = doing (CarryOn (k .machine .running)) y }) (sym q)) c
+        go false f = comes-by _ _ r (ends-found ∙ rw f (after-kill (λ y l. schedule y (back l)) (Says (pos 0)) n m k t x q)) c
 
     -- "if the caller ends, schedule"
     pub ends-caller : base-slots ≤ k .machine .running → x ≡ telling Silent (k .ended) → Comes (schedule x (view (k .machine))) r

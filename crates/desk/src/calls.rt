@@ -99,7 +99,8 @@ impl Machine {
         self.carries_on(x)
     }
 
-    // −2: "The named process and all descendants end."
+    // −2: "The named process and all descendants end."; 02, (ix): "a surviving caller with a valid target goes to the end of its ready line
+    // with result 0, then schedule. An id that names nobody still gives −1 and carries on."
     pub(crate) fn terminate(self, a1: u32) -> Answered
         requires { ⌜ Shape self × (self .running < base-slots) ⌝ }
         ensures { λ r. ⌜ Comes (terminate (row self (self .running)) a1 0 0 (view self)) r ⌝ }
@@ -114,7 +115,7 @@ impl Machine {
         let m = k.machine;
         if m.running < Machine::SLOTS {
             let x = so_far(Result::Says(0), Part::Absent, Part::Absent, 0, k.ended);
-            return m.carries_on(x);
+            return m.back(x);
         }
         let x = so_far(Result::Silent, Part::Absent, Part::Absent, 0, k.ended);
         m.schedule(x)

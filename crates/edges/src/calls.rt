@@ -76,6 +76,73 @@ kernel 1900 -3 0
     );
 }
 
+// "a surviving caller with a valid target goes to the end of its ready line with result 0, then schedule"
+fn killers() {
+    play::play(
+        b"# a killer that survives goes behind the ready ones; its result is told although another runs
+start 1000
+kernel 1100 -1
+again 2
+kernel 1200 -2 3
+kernel 1300 -10
+kernel 1400 -10
+kernel 1500 -6
+kernel 1600 -10
+
+# a killer that survives with nobody else ready runs again
+start 1000
+kernel 1100 -1
+kernel 1200 -2 2
+kernel 1300 -10
+kernel 1400 -6
+
+# a killer that survives runs again where the others wait; it is not among the woken
+start 1000
+kernel 1100 -1
+again 1
+kernel 1200 -10
+kernel 1300 -7
+kernel 1400 -5 3
+kernel 1500 -2 2
+interrupt 1600 2 0 0
+interrupt 1700 3 8 0
+kernel 1800 -10
+
+",
+    );
+}
+
+// "An id that names nobody still gives −1 and carries on."
+fn killers_in_turn() {
+    play::play(
+        b"# an id that names nobody: -1, and the caller carries on before the ready ones
+start 1000
+kernel 1100 -1
+again 1
+kernel 1200 -2 4
+kernel 1300 -2 2147483650
+kernel 1400 -2 2
+kernel 1500 -2 2
+kernel 1600 -10
+kernel 1700 -10
+
+# killers in turn: each goes behind those before it, and a newborn stands where it was born
+start 1000
+kernel 1100 -1
+again 4
+kernel 1200 -2 2
+kernel 1300 -2 6
+kernel 1400 -1
+kernel 1500 -2 5
+kernel 1600 -10
+again 3
+kernel 2000 -2 4
+kernel 2100 -10
+
+",
+    );
+}
+
 // "The named process and all descendants end."
 fn family() {
     play::play(
@@ -311,6 +378,8 @@ exception 1500 0
 pub(crate) fn all() {
     create();
     terminate();
+    killers();
+    killers_in_turn();
     family();
     semaphores();
     served();

@@ -35,7 +35,7 @@ kernel 1200 -1
 kernel 1300 -2 7
 kernel 1400 -1
 kernel 1500 -1
-kernel 1600 -2 0
+kernel 1600 -2 1
 
 ",
     );

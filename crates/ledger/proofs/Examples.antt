@@ -109,8 +109,8 @@ stories =
           ∷ [];
       told = record { issued = 1 ∷ 2 ∷ []; ended = 1 ∷ 2 ∷ []; ran = 900 ∷ 300 ∷ []; idle = 0; gaps = 1200; vs = 1; ps = 2 };
     }
-    -- three generations, 1, 2 and 3, and 4, a child of 1: 3 waits on semaphore 0, 2 is killed by 1 and 3 ends with it;
-    -- then a V finds nobody, so that the P of 3 has not got through
+    -- three generations, 1, 2 and 3, and 4, a child of 1: 3 waits on semaphore 0, 2 is killed by 1 and 3 ends with it; 1 then stands behind 4,
+    -- who names one that is dead and carries on; a V of 4 finds nobody, so that the P of 3 has not got through
     ∷ record {
       now = 0;
       sem = 0;
@@ -136,11 +136,11 @@ stories =
           ∷ none-ends (2 ∷ 4 ∷ 1 ∷ [])
           ∷ none-ends (4 ∷ 1 ∷ 2 ∷ [])
           ∷ none-ends (1 ∷ 2 ∷ 4 ∷ [])
-          ∷ one-ends 2 6 (1 ∷ 4 ∷ [])
-          ∷ none-ends (1 ∷ 4 ∷ [])
-          ∷ none-ends (1 ∷ 4 ∷ [])
+          ∷ one-ends 2 6 (4 ∷ 1 ∷ [])
+          ∷ none-ends (4 ∷ 1 ∷ [])
+          ∷ none-ends (4 ∷ 1 ∷ [])
           ∷ [];
-      told = record { issued = 1 ∷ 2 ∷ 3 ∷ 4 ∷ []; ended = 2 ∷ 3 ∷ []; ran = 8 ∷ 3 ∷ 1 ∷ 1 ∷ []; idle = 0; gaps = 13; vs = 1; ps = 0 };
+      told = record { issued = 1 ∷ 2 ∷ 3 ∷ 4 ∷ []; ended = 2 ∷ 3 ∷ []; ran = 6 ∷ 3 ∷ 1 ∷ 3 ∷ []; idle = 0; gaps = 13; vs = 1; ps = 0 };
     }
     -- the clock wraps; V at the top is passed up where there is a handle; refused events (5, 4, 1) count nothing; the machine idles from 11 to 20;
     -- a P and a V go through; V at the top then ends 1, who has no handle, and its child 2

@@ -11,7 +11,7 @@ use Rattle.rules.specs.declared.Event.{Event}
 use Rattle.rules.specs.declared.Event.the-variants.{Call, Interrupt, Exception}
 use Rattle.rules.specs.Words.{if_then_else_, first, those, among}
 use Rattle.rules.specs.Cases.{if-cases, Single, All, All-append, All-under, All-both, All-each, getD-cases}
-use Rattle.rules.specs.Lines.{those-append, those-those}
+use Rattle.rules.specs.Lines.{those-those}
 use Rattle.rules.specs.Machine.{Process, Waiter, Machine, living, at, line, family, family-of, charge}
 use Rattle.rules.specs.Living.{process, those-over, sum-charged-same, all-running, all-ready, all-waiting, each-charged}
 use Rattle.rules.specs.Answers.{Outcome, mask}
@@ -121,10 +121,10 @@ module _ (bs : List Birth) (n : ℕ) (m : Machine) (k : All (Known bs) (living m
   unfolding line
   others-live o h =
       let t : Process → Bool = λ p. not (doomed bs (n ∷ []) p) in
-      let all : All (Known bs) (m .running ++ m .ready) = All-append (Known bs) (m .running) (m .ready) (all-running (Known bs) m k) (all-ready (Known bs) m k) in
+      let all : All (Known bs) (m .ready ++ m .running) = All-append (Known bs) (m .ready) (m .running) (all-ready (Known bs) m k) (all-running (Known bs) m k) in
       let left : o .after .waiting ≡ those (λ w. t (w .process)) (m .waiting) = h .waiting ∙ spared-waiters (m .waiting) (All-under (Known bs) process (m .waiting) (all-waiting (Known bs) m k)) in
       record {
-        run-or-ready = ap₂ (λ (ps qs : List Process). ps ++ qs) (h .runs) (h .ready) ∙ front-rest _ ∙ sym (those-append (λ p. not (family n p)) (m .running) (m .ready)) ∙ spared (m .running ++ m .ready) all;
+        run-or-ready = ap₂ (λ (ps qs : List Process). ps ++ qs) (h .runs) (h .ready) ∙ front-rest _ ∙ spared (m .ready ++ m .running) all;
         waiting = left;
         lines = λ l. ap (λ (ws : List Waiter). map process (those (at l) ws)) left
             ∙ ap (map process) (those-those (at l) (λ w. t (w .process)) (m .waiting))

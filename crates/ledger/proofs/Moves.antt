@@ -1,6 +1,6 @@
 -- Why an accepted event moves just whom `move` says, and the first in the ready line then runs where nobody does.
 use mathlib.Core.Path.{_≡_, refl, sym, _∙_, ap, ap₂, subst}
-use mathlib.Core.Bool.{Bool, true, false, _&&_, _||_, true≢false}
+use mathlib.Core.Bool.{Bool, true, false, not, _&&_, _||_, true≢false}
 use mathlib.Core.List.{List, [], _∷_, _++_, map, append-nil}
 use Prim.Native.Nat.{ℕ, suc, _+_, _-_}
 use native.Mathlib.Nat.{zero-add}
@@ -23,12 +23,13 @@ use Rattle.rules.specs.declared.Answer.{Answer}
 use Rattle.rules.specs.Words.{if_then_else_, first, those, any, front, rest, without, count}
 use Rattle.rules.specs.Numbers.{top, sub-devices}
 use Rattle.rules.specs.Cases.{if-cases, first-cases, Single, single-cases, getD-past}
+use Rattle.rules.specs.Lines.{those-append}
 use Rattle.rules.specs.Machine.{Process, Waiter, Machine, with-sem, living, nucleus-waits, at, line, back, block, dispatch, wake, wake-all, named, family, family-of, kill, lowest-free, newborn, birth, longer, gap, charge}
 use Rattle.rules.specs.Living.{sum-charged-same}
 use Rattle.rules.specs.Answers.{Outcome, plain, mask, giving, bearing, ending, waking, naming}
 use Rattle.rules.specs.Rules
 use Rattle.rules.specs.Rules.{Service, act, step}
-use Rattle.rules.specs.Walk.{charge-single, kill-none, kill-other}
+use Rattle.rules.specs.Walk.{charge-single, kill-none}
 use Rattle.rules.specs.Laws.{accepts, passed}
 use Rattle.ledger.specs.Places.{alive}
 use Rattle.ledger.proofs.Lists.{no-one, everyone, length-sum, any-many, those-alike, nobody-passes, somebody-passes}
@@ -110,9 +111,17 @@ move-by e m p = first (target-by e m p) (if passed-up e m then none else carried
 stays : (m : Machine) (x : Answer) (p : Process) (a : Action) → x .woken ≡ 0 → x .ended ≡ 0 → m .running ≡ p ∷ [] → Moved none m (act a x m)
 stays m x p a u w r = as-move none m x m _ refl refl refl (u ∙ no-mask) (w ∙ no-mask) (goes-on x p a m r)
 
+-- the spared of the ready line, and behind them whoever ran and is spared
+pub spared-behind : (n : ℕ) (m : Machine) → those (λ p. not (family n p)) (m .ready ++ m .running) ≡ kill n m .ready ++ kill n m .running
+unfolding kill
+spared-behind n m = those-append (λ p. not (family n p)) (m .ready) (m .running)
+
 dies : (n : ℕ) (p : Process) (m : Machine) → family n p ≡ true → m .running ≡ p ∷ [] → Moved (ends n) m (Rules.die n m)
 unfolding Rules.die kill
-dies n p m f r = as-move (ends n) m (ending (family-of n m) plain) (kill n m) _ refl refl refl no-mask refl (schedules _ _ (kill-none n p m r f))
+dies n p m f r =
+    as-move (ends n) m (ending (family-of n m) plain) (kill n m) _ (kill-none n p m r f)
+    (sym (spared-behind n m ∙ ap (λ (ps : List Process). kill n m .ready ++ ps) (kill-none n p m r f) ∙ append-nil (kill n m .ready)))
+    refl no-mask refl (schedules _ _ (kill-none n p m r f))
 
 own-family : (p : Process) → family (p .id) p ≡ true
 unfolding family
@@ -149,13 +158,13 @@ create now p a1 a2 a3 m r = go (Rules.full m)
         (goes-on x p _ (birth p a2 a3 m) r)
 
 terminate : Serves 1 Rules.terminate
-unfolding Rules.terminate Rules.carry-on named kill
+unfolding Rules.terminate Rules.carry-on named kill back
 terminate now p a1 a2 a3 m r = named-one (if eqb a1 0 then p .id else a1)
   where
     others : Process → Outcome
     others q =
         if family (q .id) p then Rules.die (q .id) m
-        else Rules.carry-on p (giving (pos 0) (ending (family-of (q .id) m) plain)) (kill (q .id) m)
+        else Rules.schedule (giving (pos 0) (ending (family-of (q .id) m) plain)) (back (kill (q .id) m))
 
     named-one : (n : ℕ) → Moved (first (if any (λ q. eqb n (q .id)) (living m) then n ∷ [] else []) none ends) m (first (those (named n) (living m)) (Rules.carry-on p (giving (negsuc 0) plain) m) others)
     named-one n =
@@ -166,8 +175,8 @@ terminate now p a1 a2 a3 m r = named-one (if eqb a1 0 then p .id else a1)
         let z : n ≡ q .id = eqb-true n (q .id) (k .1) in
         rw (k .0) (subst (λ (j : ℕ). Moved (ends j) m (others q)) (sym z)
         (if-cases (Moved (ends (q .id)) m) (family (q .id) p) (λ f. dies (q .id) p m f r)
-        (λ f. as-move (ends (q .id)) m (giving (pos 0) (ending (family-of (q .id) m) plain)) (kill (q .id) m) _ refl refl refl no-mask refl
-        (goes-on _ p _ (kill (q .id) m) (kill-other (q .id) p m r f))))))
+        (λ f. as-move (ends (q .id)) m (giving (pos 0) (ending (family-of (q .id) m) plain)) (back (kill (q .id) m)) _ refl (sym (spared-behind (q .id) m)) refl no-mask refl
+        (schedules _ (back (kill (q .id) m)) refl)))))
 
 blocks : (l : Line) (x : Answer) (m : Machine) → x .woken ≡ 0 → x .ended ≡ 0 → Moved (joins l) m (Rules.schedule x (block l m))
 unfolding block

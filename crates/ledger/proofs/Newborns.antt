@@ -52,7 +52,7 @@ module _ (m₀ : Machine) where
     panics = λ x p ys m r e f g h. h;
     carries = λ x p m r h. h;
     passes = λ k p m r h. tt;
-    yields = λ p m r h. tt;
+    yields = λ x p m r h. h;
     blocks = λ l p m e r h. tt;
     kills = λ k p m a r h. tt;
     births = λ a2 a3 p m e r h. subst (Newborn (lowest-free m) (Says (pos (m .next)))) (h .1) (record { id-told = refl; there = free m e .1; free = free m e .0; lowest = taken m (h .0) });

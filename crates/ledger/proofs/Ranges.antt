@@ -1,7 +1,7 @@
 -- Why everything kept and answered is in range where the words and bytes of the events are.
 use mathlib.Core.Path.{_≡_, refl, sym, subst}
 use mathlib.Core.Bool.{Bool, true, false, not, _&&_, _||_}
-use mathlib.Core.List.{List, [], _∷_, map}
+use mathlib.Core.List.{List, [], _∷_, _++_, map}
 use Prim.Native.Nat.{ℕ, zero, suc, _+_, _-_, _*_, _/_, _%_, _^_, _≤_, _<_}
 use native.Mathlib.Nat.{pow-suc}
 use native.Mathlib.Omega.{arith}
@@ -167,7 +167,7 @@ terminate : Says-neat Rules.terminate
 unfolding Rules.terminate Rules.die
 terminate p a1 a2 a3 m c =
     first-cases Ends-neat (those (named (if eqb a1 0 then p .id else a1)) (living m)) (λ _. carry-neat p _ m (record { result = omega arith; device = tt })) λ q ys _.
-    if-cases Ends-neat (family (q .id) p) (λ _. schedule-neat _ _ (record { result = tt; device = tt })) (λ _. carry-neat p _ _ (record { result = omega arith; device = tt }))
+    if-cases Ends-neat (family (q .id) p) (λ _. schedule-neat _ _ (record { result = tt; device = tt })) (λ _. schedule-neat _ _ (record { result = omega arith; device = tt }))
 
 passeren : Says-neat Rules.passeren
 unfolding Rules.passeren Rules.trap
@@ -342,7 +342,7 @@ module _ (m : Machine) (h : All Words (living m)) where
   on-words (first-wakes l) = runs
   on-words (all-wake l) = runs
   on-words (is-born a2 a3) = runs
-  on-words (ends n) = All-those Words (λ p. not (family n p)) (m .running) runs
+  on-words (ends n) = tt
 
   ready-words : (v : Move) → Small v → All Words (moved v m .ready)
   ready-words none s = rdy
@@ -351,7 +351,7 @@ module _ (m : Machine) (h : All Words (living m)) where
   ready-words (first-wakes l) s = All-append Words (m .ready) (front (line l m)) rdy (All-front Words (line l m) (line-all Words l m h))
   ready-words (all-wake l) s = All-append Words (m .ready) (line l m) rdy (line-all Words l m h)
   ready-words (is-born a2 a3) s = All-append Words (m .ready) (map (λ p. newborn p a2 a3 m) (m .running)) rdy (newborns a2 a3 m s (m .running))
-  ready-words (ends n) s = All-those Words (λ p. not (family n p)) (m .ready) rdy
+  ready-words (ends n) s = All-those Words (λ p. not (family n p)) (m .ready ++ m .running) (All-append Words (m .ready) (m .running) rdy runs)
 
   waiting-words : (v : Move) → All (λ w. Words (w .process)) (moved v m .waiting)
   waiting-words none = wts

@@ -65,7 +65,7 @@ walk = record {
   panics = λ x p ys m r e f g h. let k = panics-so (with-status Panicked m) p ys (status-living Panicked m ∙ e) (status-waits Panicked m ∙ g) in record { as-said = idles (doing Panic x) (with-status Panicked m) (m .running) r (f, k .0, k .1) };
   carries = λ x p m r h. record { as-said = rw r (refl, h) };
   passes = λ k p m r h. record { as-said = rw r (refl, h) };
-  yields = λ p m r h. h;
+  yields = λ x p m r h. h;
   blocks = λ l p m e r h. h;
   kills = λ n p m a r h. h;
   births = λ a2 a3 p m e r h. h;

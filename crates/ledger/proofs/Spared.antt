@@ -19,6 +19,7 @@ use Rattle.ledger.specs.Places.{has, alive}
 use Rattle.ledger.specs.Moves.{Move, none, steps-back, joins, first-wakes, all-wake, is-born, ends, moved, queue, Moved}
 use Rattle.ledger.proofs.Lists.{everyone, all-pass}
 use Rattle.ledger.proofs.Ahead.{among-some, some-among}
+use Rattle.ledger.proofs.Moves.{spared-behind}
 
 -- ── Who does not end ──
 
@@ -59,6 +60,12 @@ lists-sum m v o w f =
       sum-append f (moved v m .on) (moved v m .ready),
     )
 
+-- where one and its descendants end, the living after the event are those whom the kill leaves
+ends-sum : (m : Machine) (n : ℕ) (o : Outcome) → Moved (ends n) m o → (f : Process → ℕ) → sum f (living (o .after)) ≡ sum f (living (kill n m))
+unfolding kill
+ends-sum m n o w f =
+    omega (arith, lists-sum m (ends n) o w f, living-sum f (kill n m), ap (sum f) (spared-behind n m), sum-append f (kill n m .ready) (kill n m .running))
+
 pub spared : (m : Machine) (v : Move) (o : Outcome) → Moved v m o → Sound m → (x : ℕ) → alive x (o .after) ≡ true → All (λ p. has x p ≡ true → spares v p ≡ true) (living m)
 unfolding kill family-of
 spared m none o w g x h = everyone _ (λ p _. refl) (living m)
@@ -70,7 +77,7 @@ spared m (is-born a2 a3) o w g x h = everyone _ (λ p _. refl) (living m)
 spared m (ends n) o w g x h =
     let f : Process → ℕ = λ p. count (has x p) in
     none-of (has x) (family n) (living m)
-    (omega (arith, among-some x (living (o .after)) h, lists-sum m (ends n) o w f, living-sum f (kill n m), sum-killed f n m, few m g x))
+    (omega (arith, among-some x (living (o .after)) h, ends-sum m n o w f, sum-killed f n m, few m g x))
 
 -- ── They are alive after the event ──
 
@@ -82,7 +89,7 @@ spared-sum m (joins l) o w f = rw (all-pass (living m)) (omega (arith, lists-sum
 spared-sum m (first-wakes l) o w f = rw (all-pass (living m)) (omega (arith, lists-sum m (first-wakes l) o w f, living-sum f (wake l m), same-wake l m .sums f))
 spared-sum m (all-wake l) o w f = rw (all-pass (living m)) (omega (arith, lists-sum m (all-wake l) o w f, living-sum f (wake-all l m), same-wake-all l m .sums f))
 spared-sum m (is-born a2 a3) o w f = rw (all-pass (living m)) (omega (arith, lists-sum m (is-born a2 a3) o w f, living-sum f m, sum-append f (m .ready) (map (λ p. newborn p a2 a3 m) (m .running))))
-spared-sum m (ends n) o w f = omega (arith, lists-sum m (ends n) o w f, living-sum f (kill n m), ap (sum f) (living-killed n m))
+spared-sum m (ends n) o w f = omega (arith, ends-sum m n o w f, ap (sum f) (living-killed n m))
 
 -- whoever passes a test is counted among those who pass
 counted-in : (t : Process → Bool) (ps : List Process) → All (λ p. t p ≡ true → 1 ≤ many (has (p .id)) (those t ps)) ps

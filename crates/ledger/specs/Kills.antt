@@ -1,5 +1,6 @@
 -- KILLS. When an answer ends anyone (terminate, or dying of a trap), the ended mask is exactly the slots of the target and its descendants
--- by birth, births being those that the answers told; everyone else lives on with the same id, parent, place and order within its line.
+-- by birth, births being those that the answers told; everyone else lives on with the same id, parent, place and order within its line, but that
+-- a killer that survives goes to the end of the ready line (02, (ix)).
 -- Every ancestor of the living is alive.
 use mathlib.Core.Path.{_≡_}
 use mathlib.Core.Bool.{Bool, true, false, not, _&&_, _||_}
@@ -60,9 +61,9 @@ target e m = first (m .running) [] (target-by e m)
 abbrev pub doomed : List Birth → List ℕ → Process → Bool
 doomed bs ns p = any (λ n. among n (p .id ∷ chain (p .id) bs)) ns
 
--- all of m but the doomed are in m′, as they were and in the order in which they stood; only the first in the ready line may now run
+-- all of m but the doomed are in m′, as they were and in the order in which they stood; whoever ran is behind the ready line, and the first there runs
 pub record Others-live (dies : Process → Bool) (m m′ : Machine) : Type 0 where
-  pub run-or-ready : m′ .running ++ m′ .ready ≡ those (λ p. not (dies p)) (m .running ++ m .ready)
+  pub run-or-ready : m′ .running ++ m′ .ready ≡ those (λ p. not (dies p)) (m .ready ++ m .running)
   pub waiting : m′ .waiting ≡ those (λ w. not (dies (w .process))) (m .waiting)
   pub lines : (l : Line) → line l m′ ≡ those (λ p. not (dies p)) (line l m)
 

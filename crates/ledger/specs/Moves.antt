@@ -30,7 +30,7 @@ pub data Move : Type 0 where
   all-wake : Line → Move
   -- a newborn of whoever runs, with a priority and a support handle, stands at the end of the ready line
   is-born : ℕ → ℕ → Move
-  -- one and its descendants are nowhere
+  -- one and its descendants are nowhere; whoever runs and is none of them goes to the end of the ready line
   ends : ℕ → Move
 
 -- ── Which event moves whom ──
@@ -76,8 +76,8 @@ moved (first-wakes l) m = record { on = m .running; ready = m .ready ++ front (l
 moved (all-wake l) m = record { on = m .running; ready = m .ready ++ line l m; waiting = those (λ w. not (at l w)) (m .waiting) }
 moved (is-born priority handle) m = record { on = m .running; ready = m .ready ++ map (λ p. newborn p priority handle m) (m .running); waiting = m .waiting }
 moved (ends n) m = record {
-  on = those (λ p. not (family n p)) (m .running);
-  ready = those (λ p. not (family n p)) (m .ready);
+  on = [];
+  ready = those (λ p. not (family n p)) (m .ready ++ m .running);
   waiting = those (λ w. not (family n (w .process))) (m .waiting);
 }
 

@@ -40,9 +40,9 @@ edges =
     -- create with 20 alive
     ∷ edge 0 0 (creates 20)
     (printed 0 (CarryOn 0) (Says (negsuc 0)) Absent Absent 0 0 ∷ [])
-    -- with 20, then a childless one is killed: that slot again, a new id
+    -- with 20, then a childless one is killed: that slot again, a new id (by the first in the ready line: the killer is behind it)
     ∷ edge 0 0 (creates 20 ++ call 0 2 7 0 0 ∷ call 0 1 0 0 0 ∷ [])
-    (printed 0 (CarryOn 0) (Says (pos 0)) Absent Absent 0 64 ∷ printed 0 (CarryOn 0) (Says (pos 21)) (Number 6) Absent 0 0 ∷ [])
+    (printed 0 (Run 1) (Says (pos 0)) Absent Absent 0 64 ∷ printed 0 (CarryOn 1) (Says (pos 21)) (Number 6) Absent 0 0 ∷ [])
     -- gap 2,147,483,647
     ∷ edge 0 0 (call 2147483647 6 0 0 0 ∷ [])
     (printed 0 (CarryOn 0) (Says (pos 2147483647)) Absent Absent 0 0 ∷ [])
@@ -81,7 +81,7 @@ others : List Edge
 others =
     -- kill of a waiter, then V: the value rises, so that a P gets through
     edge 0 0 (creates 1 ++ call 0 10 0 0 0 ∷ call 0 3 0 0 0 ∷ call 0 2 2 0 0 ∷ call 0 4 0 0 0 ∷ call 0 3 0 0 0 ∷ [])
-    (printed 0 (Run 0) Silent Absent Absent 0 0 ∷ printed 0 (CarryOn 0) (Says (pos 0)) Absent Absent 0 2 ∷ printed 0 (CarryOn 0) Silent Absent Absent 0 0 ∷ printed 0 (CarryOn 0) Silent Absent Absent 0 0 ∷ [])
+    (printed 0 (Run 0) Silent Absent Absent 0 0 ∷ printed 0 (Run 0) (Says (pos 0)) Absent Absent 0 2 ∷ printed 0 (CarryOn 0) Silent Absent Absent 0 0 ∷ printed 0 (CarryOn 0) Silent Absent Absent 0 0 ∷ [])
     -- two wait on a semaphore: first come first, also in the ready line
     ∷ edge 0 0 (creates 2 ++ call 0 3 0 0 0 ∷ call 0 3 0 0 0 ∷ call 0 4 0 0 0 ∷ call 0 4 0 0 0 ∷ call 0 10 0 0 0 ∷ call 0 10 0 0 0 ∷ [])
     (printed 0 (Run 2) Silent Absent Absent 0 0 ∷ printed 0 (CarryOn 2) Silent Absent Absent 1 0 ∷ printed 0 (CarryOn 2) Silent Absent Absent 2 0 ∷ printed 0 (Run 0) Silent Absent Absent 0 0 ∷ printed 0 (Run 1) Silent Absent Absent 0 0 ∷ [])
@@ -90,10 +90,10 @@ others =
     (printed 0 (Run 3) Silent Absent Absent 0 0 ∷ printed 0 (CarryOn 3) Silent Absent Absent 5 0 ∷ printed 0 (Run 0) Silent Absent Absent 0 0 ∷ printed 0 (Run 2) Silent Absent Absent 0 0 ∷ [])
     -- three wait on a semaphore and the middle one is killed: the order of the others stays
     ∷ edge 0 0 (creates 3 ++ call 0 10 0 0 0 ∷ call 0 3 0 0 0 ∷ call 0 3 0 0 0 ∷ call 0 3 0 0 0 ∷ call 0 2 3 0 0 ∷ call 0 4 0 0 0 ∷ call 0 4 0 0 0 ∷ [])
-    (printed 0 (CarryOn 0) (Says (pos 0)) Absent Absent 0 4 ∷ printed 0 (CarryOn 0) Silent Absent Absent 2 0 ∷ printed 0 (CarryOn 0) Silent Absent Absent 8 0 ∷ [])
+    (printed 0 (Run 0) (Says (pos 0)) Absent Absent 0 4 ∷ printed 0 (CarryOn 0) Silent Absent Absent 2 0 ∷ printed 0 (CarryOn 0) Silent Absent Absent 8 0 ∷ [])
     -- a grandchild waits on a semaphore and its grandparent's child is killed: both end, and a V finds nobody
     ∷ edge 0 0 (creates 1 ++ call 0 10 0 0 0 ∷ call 0 1 0 0 0 ∷ call 0 10 0 0 0 ∷ call 0 10 0 0 0 ∷ call 0 3 0 0 0 ∷ call 0 10 0 0 0 ∷ call 0 2 2 0 0 ∷ call 0 4 0 0 0 ∷ [])
-    (printed 0 (Run 0) Silent Absent Absent 0 0 ∷ printed 0 (CarryOn 0) (Says (pos 0)) Absent Absent 0 6 ∷ printed 0 (CarryOn 0) Silent Absent Absent 0 0 ∷ [])
+    (printed 0 (Run 0) Silent Absent Absent 0 0 ∷ printed 0 (Run 0) (Says (pos 0)) Absent Absent 0 6 ∷ printed 0 (CarryOn 0) Silent Absent Absent 0 0 ∷ [])
     -- three generations, and the eldest ends itself: all end
     ∷ edge 0 0 (creates 1 ++ call 0 10 0 0 0 ∷ call 0 1 0 0 0 ∷ call 0 10 0 0 0 ∷ call 0 2 0 0 0 ∷ [])
     (printed 0 (Run 0) Silent Absent Absent 0 0 ∷ printed 0 Halt Silent Absent Absent 0 7 ∷ [])
@@ -132,7 +132,10 @@ others =
     (printed 0 Halt Silent Absent Absent 0 3 ∷ [])
     -- an id that names nobody alive; a new id in an old slot is another id
     ∷ edge 0 0 (creates 1 ++ call 0 2 3 0 0 ∷ call 0 2 2 0 0 ∷ call 0 2 2 0 0 ∷ call 0 1 0 0 0 ∷ call 0 2 2 0 0 ∷ call 0 2 3 0 0 ∷ [])
-    (printed 0 (CarryOn 0) (Says (negsuc 0)) Absent Absent 0 0 ∷ printed 0 (CarryOn 0) (Says (pos 0)) Absent Absent 0 2 ∷ printed 0 (CarryOn 0) (Says (negsuc 0)) Absent Absent 0 0 ∷ printed 0 (CarryOn 0) (Says (pos 3)) (Number 1) Absent 0 0 ∷ printed 0 (CarryOn 0) (Says (negsuc 0)) Absent Absent 0 0 ∷ printed 0 (CarryOn 0) (Says (pos 0)) Absent Absent 0 2 ∷ [])
+    (printed 0 (CarryOn 0) (Says (negsuc 0)) Absent Absent 0 0 ∷ printed 0 (Run 0) (Says (pos 0)) Absent Absent 0 2 ∷ printed 0 (CarryOn 0) (Says (negsuc 0)) Absent Absent 0 0 ∷ printed 0 (CarryOn 0) (Says (pos 3)) (Number 1) Absent 0 0 ∷ printed 0 (CarryOn 0) (Says (negsuc 0)) Absent Absent 0 0 ∷ printed 0 (Run 0) (Says (pos 0)) Absent Absent 0 2 ∷ [])
+    -- a killer that survives goes behind the others, with its result; an id that names nobody leaves it where it is
+    ∷ edge 0 0 (creates 2 ++ call 0 2 9 0 0 ∷ call 0 2 3 0 0 ∷ call 0 9 0 0 0 ∷ call 0 10 0 0 0 ∷ [])
+    (printed 0 (CarryOn 0) (Says (negsuc 0)) Absent Absent 0 0 ∷ printed 0 (Run 1) (Says (pos 0)) Absent Absent 0 4 ∷ printed 0 (CarryOn 1) (Says (pos 2)) Absent Absent 0 0 ∷ printed 0 (Run 0) Silent Absent Absent 0 0 ∷ [])
     -- own id, the parent's (0 for id 1), the support handle; a child has no handle of its parent's
     ∷ edge 0 0 (call 0 9 0 0 0 ∷ call 0 9 7 0 0 ∷ call 0 8 0 0 0 ∷ call 0 1 0 0 9 ∷ call 0 10 0 0 0 ∷ call 0 9 0 0 0 ∷ call 0 9 7 0 0 ∷ call 0 8 0 0 0 ∷ call 0 1 0 0 0 ∷ call 0 10 0 0 0 ∷ call 0 10 0 0 0 ∷ call 0 9 7 0 0 ∷ call 0 8 0 0 0 ∷ [])
     (printed 0 (CarryOn 0) (Says (pos 1)) Absent Absent 0 0 ∷ printed 0 (CarryOn 0) (Says (pos 0)) Absent Absent 0 0 ∷ printed 0 (CarryOn 0) (Says (pos 0)) Absent Absent 0 0 ∷ printed 0 (CarryOn 0) (Says (pos 2)) (Number 1) Absent 0 0 ∷ printed 0 (Run 1) Silent Absent Absent 0 0 ∷ printed 0 (CarryOn 1) (Says (pos 2)) Absent Absent 0 0 ∷ printed 0 (CarryOn 1) (Says (pos 1)) Absent Absent 0 0 ∷ printed 0 (CarryOn 1) (Says (pos 9)) Absent Absent 0 0 ∷ printed 0 (CarryOn 1) (Says (pos 3)) (Number 2) Absent 0 0 ∷ printed 0 (Run 0) Silent Absent Absent 0 0 ∷ printed 0 (Run 2) Silent Absent Absent 0 0 ∷ printed 0 (CarryOn 2) (Says (pos 2)) Absent Absent 0 0 ∷ printed 0 (CarryOn 2) (Says (pos 0)) Absent Absent 0 0 ∷ [])

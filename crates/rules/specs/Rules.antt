@@ -86,13 +86,13 @@ create p a1 a2 a3 m =
     if full m then carry-on p (giving (negsuc 0) plain) m
     else carry-on p (giving (pos (m .next)) (bearing (lowest-free m) plain)) (birth p a2 a3 m)
 
--- −2: "a1 = 0 means the caller, otherwise an id; an id that names nobody alive gives −1 and ends nobody;
--- if the caller survives it carries on with result 0; if the caller ends, schedule"
+-- −2: "a1 = 0 means the caller, otherwise an id; an id that names nobody alive gives −1 and ends nobody; if the caller ends, schedule";
+-- 02, (ix): "a surviving caller with a valid target goes to the end of its ready line with result 0, then schedule"
 unfoldable pub terminate : Service
 terminate p a1 a2 a3 m =
     first (those (named (if eqb a1 0 then p .id else a1)) (living m)) (carry-on p (giving (negsuc 0) plain) m) λ q.
     if family (q .id) p then die (q .id) m
-    else carry-on p (giving (pos 0) (ending (family-of (q .id) m) plain)) (kill (q .id) m)
+    else schedule (giving (pos 0) (ending (family-of (q .id) m) plain)) (back (kill (q .id) m))
 
 -- the semaphore's value; whether there is such a semaphore
 abbrev pub value : ℕ → Machine → ℕ

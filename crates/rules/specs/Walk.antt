@@ -50,8 +50,9 @@ pub record Walk (B : Machine → Type 0) (S : Answer → Machine → Type 0) (Q 
   -- the running process stays
   pub carries : (x : Answer) (p : Process) (m : Machine) → m .running ≡ p ∷ [] → S x m → Q (doing (CarryOn (p .slot)) x) m
   pub passes : (k : Cause) (p : Process) (m : Machine) → m .running ≡ p ∷ [] → B m → Q (doing (PassUp (p .slot) k) plain) m
+  -- whoever runs goes to the end of the ready line
+  pub yields : (x : Answer) (p : Process) (m : Machine) → m .running ≡ p ∷ [] → S x m → S x (back m)
   -- the one change of an event
-  pub yields : (p : Process) (m : Machine) → m .running ≡ p ∷ [] → B m → S plain (back m)
   pub blocks : (l : Line) (p : Process) (m : Machine) → may-wait l m ≡ true → m .running ≡ p ∷ [] → B m → S plain (block l m)
   pub kills : (n : ℕ) (p : Process) (m : Machine) → 1 ≤ many (named n) (living m) → m .running ≡ p ∷ [] → B m → S (ending (family-of n m) plain) (kill n m)
   pub births : (a2 a3 : ℕ) (p : Process) (m : Machine) → full m ≡ false → m .running ≡ p ∷ [] → B m → S (giving (pos (m .next)) (bearing (lowest-free m) plain)) (birth p a2 a3 m)
@@ -158,7 +159,7 @@ module _ (B : Machine → Type 0) (S : Answer → Machine → Type 0) (Q : Answe
       first-cases Ends (those (named (if eqb a1 0 then p .id else a1)) (living m)) (λ _. w .carries _ p m r (w .gives _ plain m refl (w .begins m h))) λ q ys f.
       let a = many-some (named (if eqb a1 0 then p .id else a1)) (named (q .id)) (living m) q ys f (own-name q) in
       if-cases Ends (family (q .id) p) (λ e. die (q .id) p m e a r h)
-      (λ e. w .carries _ p _ (kill-other (q .id) p m r e) (w .gives _ _ _ refl (w .kills (q .id) p m a r h)))
+      (λ e. schedule _ _ (back-none (kill (q .id) m)) (w .yields _ p _ (kill-other (q .id) p m r e) (w .gives _ _ _ refl (w .kills (q .id) p m a r h))))
 
   pub do-io : Serves Rules.do-io
   unfolding Rules.do-io
@@ -182,12 +183,12 @@ module _ (B : Machine → Type 0) (S : Answer → Machine → Type 0) (Q : Answe
 
   pub yield : Serves Rules.yield
   unfolding Rules.yield
-  yield p a1 a2 a3 m r h = schedule plain _ (back-none m) (w .yields p m r h)
+  yield p a1 a2 a3 m r h = schedule plain _ (back-none m) (w .yields plain p m r (w .begins m h))
 
   pub interrupt : (n x y : ℕ) (m : Machine) → Single (m .running) → B m → Ends (Rules.interrupt n x y m)
   unfolding Rules.interrupt Rules.tick Rules.device-done
   interrupt n x y m s h =
-      if-cases Ends (eqb n 1) (λ _. runner m _ s h (λ p r. schedule plain _ (back-none m) (w .yields p m r h))) λ _.
+      if-cases Ends (eqb n 1) (λ _. runner m _ s h (λ p r. schedule plain _ (back-none m) (w .yields plain p m r (w .begins m h)))) λ _.
       if-cases Ends (eqb n 2) (λ _. resume _ _ (wake-all-single PseudoClock m s) (w .ticks m h)) λ _.
       let d = Rules.sub-device n x y in
       first-cases Ends (line (Device d) m) (λ _. resume _ m s (w .names d plain m (w .begins m h)))
@@ -264,7 +265,7 @@ module _ (B : Machine → Type 0) (S : Answer → Machine → Type 0) (k : Kept 
     panics = λ x p ys m r e f g h. k .tells _ _ _ _ x _ (k .stops Panicked x m h);
     carries = λ x p m r h. k .tells _ _ _ _ x m h;
     passes = λ n p m r h. k .tells _ _ _ _ plain m (k .begins m h);
-    yields = λ p m r h. k .moves _ _ _ plain m (same-back m) (k .begins m h);
+    yields = λ x p m r h. k .moves _ _ _ x m (same-back m) h;
     blocks = λ l p m e r h. k .moves _ _ _ plain m (same-block l m) (k .begins m h);
     kills = λ n p m a r h. k .kills n m h;
     births = λ a2 a3 p m e r h. k .births a2 a3 p m e r h;

@@ -18,7 +18,8 @@ interrupt 1900 1 0 0 ; the customer's slice ends
 kernel 2000 -3 5 ; each of the flood waits on semaphore 5
 again 16
 kernel 2100 -1 0 1 7 ; the alarm's process is denied: 20 are alive
-kernel 2200 -2 9 ; one of the flood is killed, id 9 in slot 8
+kernel 2200 -2 9 ; one of the flood is killed, id 9 in slot 8: its killer goes behind the customer's process
+interrupt 2250 1 0 0 ; the customer's slice ends
 kernel 2300 -1 0 1 7 ; the alarm's process: slot 8 again, id 21
 kernel 2400 -5 40 ; the alarm service waits again
 interrupt 2500 1 0 0 ; the customer's slice ends

@@ -95,8 +95,8 @@ fn creates() {
         [
             (kernel(0, -1, 0), "0 on 0 20 19 - 0 0"),
             (kernel(0, -1, 0), "0 on 0 -1 - - 0 0"),
-            (kernel(0, -2, 8), "0 on 0 0 - - 0 128"),
-            (kernel(0, -1, 0), "0 on 0 21 7 - 0 0"),
+            (kernel(0, -2, 8), "0 run 1 0 - - 0 128"),
+            (kernel(0, -1, 0), "0 on 1 21 7 - 0 0"),
         ],
     );
     let mut desk = family(0);
@@ -144,7 +144,7 @@ fn semaphores() {
             (kernel(0, -3, 0), "0 run 2 - - - 0 0"),
             (kernel(0, -3, 0), "0 run 3 - - - 0 0"),
             (kernel(0, -3, 0), "0 run 0 - - - 0 0"),
-            (kernel(0, -2, 3), "0 on 0 0 - - 0 4"),
+            (kernel(0, -2, 3), "0 run 0 0 - - 0 4"),
             (kernel(0, -4, 0), "0 on 0 - - - 2 0"),
             (kernel(0, -4, 0), "0 on 0 - - - 8 0"),
             (kernel(0, -4, 0), "0 on 0 - - - 0 0"),
@@ -228,6 +228,47 @@ fn kills() {
             (kernel(0, -2, 1), "0 halt - - - - 0 3"),
         ],
     );
+}
+
+#[test]
+fn killers_that_survive() {
+    // "to the end of its ready line with result 0, then schedule": the result is told although
+    // another runs, and each gap is still charged to whoever ran.
+    let mut desk = family(4);
+    play(
+        &mut desk,
+        [
+            (kernel(7, -2, 3), "0 run 1 0 - - 0 4"),
+            (kernel(9, -6, 0), "0 on 1 2 - - 0 0"),
+            // A sibling that is next; the second killer goes behind the first.
+            (kernel(9, -2, 4), "0 run 4 0 - - 0 8"),
+            (kernel(9, -10, 0), "0 run 0 - - - 0 0"),
+            (kernel(10, -6, 0), "0 on 0 8 - - 0 0"),
+            (kernel(10, -10, 0), "0 run 1 - - - 0 0"),
+        ],
+    );
+    assert_eq!((desk.running, &desk.ready), (Some(1), &VecDeque::from([4, 0])));
+    // Nobody else is ready: the killer runs again, also where others wait.
+    let mut desk = family(2);
+    play(
+        &mut desk,
+        [
+            (kernel(0, -2, 2), "0 run 2 0 - - 0 2"),
+            (kernel(0, -7, 0), "0 run 0 - - - 0 0"),
+            (kernel(0, -1, 0), "0 on 0 4 1 - 0 0"),
+            (kernel(0, -2, 4), "0 run 0 0 - - 0 2"),
+            (kernel(0, -2, 3), "0 run 0 0 - - 0 4"),
+            (interrupt(0, 2, 0, 0), "0 on 0 - - - 0 0"),
+        ],
+    );
+    // "An id that names nobody still gives −1 and carries on": the line stays as it was.
+    let mut desk = family(2);
+    let before = desk.clone();
+    play(
+        &mut desk,
+        [(kernel(0, -2, 4), "0 on 0 -1 - - 0 0"), (kernel(0, -2, u32::MAX), "0 on 0 -1 - - 0 0")],
+    );
+    assert_eq!(desk, before);
 }
 
 #[test]

@@ -42,8 +42,8 @@ kill-requires c κs =
 so-far-requires : tie.Need-so-far-requires
 so-far-requires c κs = search needs
 
-carries-on-requires : tie.Need-carries-on-requires
-carries-on-requires c κs = search needs
+back-requires : tie.Need-back-requires
+back-requires c κs = search needs
 
 returns-2 : tie.Need-returns-2
 returns-2 c =
@@ -51,7 +51,7 @@ returns-2 c =
     let n = c .before .before .before .before .before .before .before .before .before .before .before .named in
     let k = c .before .before .before .before .before .kill in
     let x = c .before .so-far in
-    let r = c .carries-on in
+    let r = c .back in
     ends-other (st .args .t1) (st .pre .0) (st .pre .1) (st .args .a1) (n .result) (n .ensures) _ (sym (c .before .before .before .before .before .before .before .before .find-id .ensures) ∙ c .before .before .before .before .before .before .enum-told .given .1) (k .result) (k .ensures) (x .result) (r .result) (c .before .before .if1 .taken) (x .ensures) (r .ensures)
 
 so-far-requires-2 : tie.Need-so-far-requires-2
@@ -83,7 +83,7 @@ terminate-spec =
     returns
     kill-requires
     so-far-requires
-    carries-on-requires
+    back-requires
     returns-2
     so-far-requires-2
     schedule-requires
