@@ -1,7 +1,9 @@
 //! How often each kind of event, answer and situation comes up over some seeds.
 
-use crate::desk::{Action, Answer, Call, Desk, Event, Interrupt, Kind, Mode, GAP_MAX, SLOTS, VALUE_MAX};
-use crate::log::{Log, LogRefusal};
+use crate::desk::{
+    Action, Answer, Call, Desk, Event, Interrupt, Kind, Mode, CUSTOMERS, GAP_MAX, SLOTS, VALUE_MAX,
+};
+use crate::log::{Log, LogRefusal, Reason, Start};
 use crate::{damage, generate, line, log};
 use std::collections::BTreeMap;
 use std::ops::RangeInclusive;
@@ -26,12 +28,19 @@ const NAMES: &[(&str, &[&str])] = &[
     ("call", &["-1", "-2", "-3", "-4", "-5", "-6", "-7", "-8", "-9", "-10"]),
     ("call", &["0", "1 or more", "below -10", "-2147483648", "in user mode"]),
     ("clock", &["stands still", "gap 2147483647", "gap 2147483648", "wraps"]),
-    ("create", &["denied", "with handle", "without handle", "in a slot again", "the twentieth"]),
+    ("create", &["with handle", "without handle", "in a slot again", "the twentieth"]),
+    ("create", &["customer 0 for itself", "customer 0 for another", "another, whatever a2 says"]),
+    ("create", &["another, though a2 / 256 is above 8", "beside a customer at its ceiling"]),
+    ("create", &["the last place", "a place given back"]),
+    ("denied", &["slots free", "no slot free", "9 to 255 named", "256 or more named"]),
+    ("denied", &["customer 0 for itself", "customer 0 for another", "another for itself", "ceiling 0"]),
     ("exception", &["trap", "TLB", "odd"]),
     ("line", &["1", "2", "3", "4", "5", "6", "7", "odd"]),
     ("interrupt", &["no byte", "several bits", "wanted", "unwanted", "nobody running"]),
     ("interrupt", &["receipt first", "wait again"]),
-    ("log", &["whole", "20", "21", "22", "23", "24", "25", "26"]),
+    ("log", &["whole", "20", "21", "22", "23", "24", "25", "26", "27"]),
+    ("start", &["customer 0 alone", "sum of 20", "sum below 20", "24 and not 27"]),
+    ("start", &["27 for ceiling 0", "27 for the sum", "27 for a sum that wraps"]),
     ("refusal", &["0", "1", "2", "4", "5", "6"]),
     ("P", &["through", "waits", "odd number"]),
     ("V", &["raises", "wakes", "at the top", "odd number"]),
@@ -59,7 +68,12 @@ impl Count {
     pub fn of_seeds(seeds: RangeInclusive<u64>, events: usize) -> Self {
         let mut count = Count::default();
         for seed in seeds {
-            count.log(log::open(&log_of(seed, events)));
+            let bytes = log_of(seed, events);
+            let log = log::open(&bytes);
+            if let Ok((start, _)) = log::read_any_start(&bytes) {
+                count.start(&start, log.as_ref().err());
+            }
+            count.log(log);
         }
         count
     }
@@ -76,6 +90,7 @@ impl Count {
         };
         let mut desk = start.desk();
         let mut killer = None;
+        let mut denied = [false; CUSTOMERS];
         for event in events {
             match event {
                 Ok(event) => {
@@ -83,6 +98,7 @@ impl Count {
                     let answer = desk.event(&event);
                     self.event(&before, &event, &answer);
                     killer = self.turn(killer, &before, &answer);
+                    self.place(&mut denied, &before, &event, &answer);
                 }
                 Err(refusal) => return self.add("log", refusal.reason as u8),
             }
@@ -93,6 +109,24 @@ impl Count {
     fn add(&mut self, group: &str, name: impl std::fmt::Display) {
         let name = format!("{group}: {name}");
         *self.0.get_mut(&name).expect("a name of the list") += 1;
+    }
+
+    /// A start, and the refusal of its log.
+    fn start(&mut self, start: &Start, refusal: Option<&LogRefusal>) {
+        let sum: usize = start.ceilings.iter().map(|&ceiling| usize::from(ceiling)).sum();
+        let bad = start.ceilings[0] == 0 || sum > SLOTS;
+        match refusal.map(|refusal| refusal.reason) {
+            Some(Reason::ValueTooLarge) if bad => self.add("start", "24 and not 27"),
+            Some(Reason::BadCeilings) if start.ceilings[0] == 0 => self.add("start", "27 for ceiling 0"),
+            Some(Reason::BadCeilings) if sum % 65_536 <= SLOTS => {
+                self.add("start", "27 for a sum that wraps")
+            }
+            Some(Reason::BadCeilings) => self.add("start", "27 for the sum"),
+            _ if bad => {}
+            _ if sum == usize::from(start.ceilings[0]) => self.add("start", "customer 0 alone"),
+            _ if sum == SLOTS => self.add("start", "sum of 20"),
+            _ => self.add("start", "sum below 20"),
+        }
     }
 
     fn event(&mut self, before: &Desk, event: &Event, answer: &Answer) {
@@ -179,8 +213,12 @@ impl Count {
     }
 
     fn create(&mut self, before: &Desk, call: &Call, answer: &Answer) {
+        let caller = before.running.expect("a call has a caller");
+        let own = before.process(caller).customer;
+        let named = call.a2 / 256;
+        let customer = before.child_customer(caller, call.a2);
         let Some(slot) = answer.newborn else {
-            return self.add("create", "denied");
+            return self.denied(before, own, customer);
         };
         self.add("create", if call.a3 == 0 { "without handle" } else { "with handle" });
         if answer.result != Some(slot as i64 + 1) {
@@ -189,6 +227,48 @@ impl Count {
         if before.alive() == SLOTS - 1 {
             self.add("create", "the twentieth");
         }
+        match (own, customer) {
+            (0, 0) => self.add("create", "customer 0 for itself"),
+            (0, _) => self.add("create", "customer 0 for another"),
+            _ if named > 8 => self.add("create", "another, though a2 / 256 is above 8"),
+            _ => self.add("create", "another, whatever a2 says"),
+        }
+        if before.living_of(customer) + 1 == before.ceilings[customer].into() {
+            self.add("create", "the last place");
+        }
+        let full = |other| other != customer && before.ceilings[other] > 0 && before.at_ceiling(other);
+        if (0..CUSTOMERS).any(full) {
+            self.add("create", "beside a customer at its ceiling");
+        }
+    }
+
+    fn denied(&mut self, before: &Desk, own: usize, customer: usize) {
+        match (own, customer) {
+            (_, 256..) => return self.add("denied", "256 or more named"),
+            (_, 9..) => return self.add("denied", "9 to 255 named"),
+            (0, 0) => self.add("denied", "customer 0 for itself"),
+            (0, _) if before.ceilings[customer] == 0 => self.add("denied", "ceiling 0"),
+            (0, _) => self.add("denied", "customer 0 for another"),
+            _ => self.add("denied", "another for itself"),
+        }
+        self.add("denied", if before.alive() < SLOTS { "slots free" } else { "no slot free" });
+    }
+
+    /// A create that is granted to a customer after one was denied to it.
+    fn place(&mut self, denied: &mut [bool; CUSTOMERS], before: &Desk, event: &Event, answer: &Answer) {
+        let Event { kind: Kind::Call(Call { mode: Mode::Kernel, a0: -1, a2, .. }), .. } = *event else {
+            return;
+        };
+        let caller = before.running.filter(|_| answer.refusal.is_none());
+        let customer = caller.map(|caller| before.child_customer(caller, a2));
+        let Some(customer) = customer.filter(|&customer| customer < CUSTOMERS) else {
+            return;
+        };
+        let granted = answer.newborn.is_some();
+        if granted && denied[customer] {
+            self.add("create", "a place given back");
+        }
+        denied[customer] = !granted;
     }
 
     fn terminate(&mut self, before: &Desk, call: &Call, answer: &Answer) {
@@ -250,32 +330,56 @@ impl Count {
 mod tests {
     use super::*;
 
-    /// `generate --count 1..400` prints these and more: 123,879 events in 400 logs.
+    /// `generate --count 1..400` prints these and more: 114,084 events in 400 logs.
     const AT_THE_GATE: &[(&str, u64)] = &[
-        ("refusal: 0", 92_100),
-        ("refusal: 1", 16_917),
-        ("refusal: 2", 7_185),
-        ("refusal: 4", 3_141),
-        ("refusal: 5", 2_702),
-        ("refusal: 6", 1_834),
-        ("action: on", 48_055),
-        ("action: run", 25_824),
-        ("action: wait", 11_173),
-        ("action: halt", 53),
-        ("action: panic", 38),
-        ("action: up0", 1_013),
-        ("action: up1", 5_944),
-        ("terminate: another, others ready", 911),
-        ("terminate: another, nobody else ready", 342),
-        ("terminate: the killer's turn", 744),
-        ("log: whole", 217),
-        ("log: 20", 26),
-        ("log: 21", 25),
-        ("log: 22", 34),
-        ("log: 23", 50),
-        ("log: 24", 15),
-        ("log: 25", 17),
-        ("log: 26", 16),
+        ("refusal: 0", 83_821),
+        ("refusal: 1", 17_333),
+        ("refusal: 2", 6_245),
+        ("refusal: 4", 2_663),
+        ("refusal: 5", 2_368),
+        ("refusal: 6", 1_654),
+        ("action: on", 45_031),
+        ("action: run", 22_148),
+        ("action: wait", 9_930),
+        ("action: halt", 44),
+        ("action: panic", 35),
+        ("action: up0", 948),
+        ("action: up1", 5_685),
+        ("terminate: another, others ready", 723),
+        ("terminate: another, nobody else ready", 244),
+        ("terminate: the killer's turn", 572),
+        ("create: customer 0 for itself", 2_598),
+        ("create: customer 0 for another", 1_926),
+        ("create: another, whatever a2 says", 1_774),
+        ("create: another, though a2 / 256 is above 8", 164),
+        ("create: beside a customer at its ceiling", 1_601),
+        ("create: the last place", 1_422),
+        ("create: a place given back", 859),
+        ("create: the twentieth", 291),
+        ("denied: customer 0 for itself", 1_542),
+        ("denied: customer 0 for another", 796),
+        ("denied: another for itself", 5_049),
+        ("denied: ceiling 0", 358),
+        ("denied: 9 to 255 named", 159),
+        ("denied: 256 or more named", 291),
+        ("denied: slots free", 5_956),
+        ("denied: no slot free", 1_789),
+        ("start: customer 0 alone", 62),
+        ("start: sum of 20", 206),
+        ("start: sum below 20", 41),
+        ("start: 24 and not 27", 13),
+        ("start: 27 for ceiling 0", 4),
+        ("start: 27 for the sum", 15),
+        ("start: 27 for a sum that wraps", 6),
+        ("log: whole", 210),
+        ("log: 20", 19),
+        ("log: 21", 15),
+        ("log: 22", 37),
+        ("log: 23", 37),
+        ("log: 24", 25),
+        ("log: 25", 12),
+        ("log: 26", 20),
+        ("log: 27", 25),
     ];
 
     #[test]
@@ -301,7 +405,7 @@ mod tests {
         count.log(log::open_stream(&stream));
         for (name, times) in count.rows() {
             let ends = ["action: halt", "action: panic", "refusal: 1"].contains(&name);
-            let never = ends || name.starts_with("log: 2");
+            let never = ends || name.starts_with("log: 2") || name.starts_with("start: ");
             assert_eq!(times == 0, never, "{name} came up {times} times");
         }
     }

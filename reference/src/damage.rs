@@ -1,8 +1,14 @@
 //! Damaged logs, so that every log refusal comes up.
 
+use crate::desk::{CUSTOMERS, SEMAPHORES};
 use crate::generate;
 use crate::log::{value_length, HEAD, MAX_BYTES};
 use crate::rng::Rng;
+
+/// Where a start has its values and its ceilings, and where it ends.
+const VALUES: usize = HEAD + 4;
+const CEILINGS: usize = VALUES + 4 * SEMAPHORES;
+const START: usize = CEILINGS + 2 * CUSTOMERS;
 
 /// The log of a seed, damaged once, or twice for one seed in five.
 pub fn log(seed: u64, count: usize) -> Vec<u8> {
@@ -23,9 +29,9 @@ fn damage(rng: &mut Rng, bytes: &mut Vec<u8>) {
     // The first and the last field as often as all between them.
     let field = rng.index(fields.len());
     let field = fields[rng.pick(&[0, field, field, fields.len() - 1])];
-    match rng.below(12) {
+    match rng.below(16) {
         0 => bytes.truncate(field + rng.index(HEAD)),
-        1 => bytes.truncate(field + HEAD + rng.index(5)),
+        1 => bytes.truncate(field + HEAD + rng.index(value_length(bytes[field]).unwrap_or(1))),
         2 => bytes[field] = rng.pick(&[0, 5, 6, 255]),
         3 => {
             let step = rng.pick(&[1, 255]);
@@ -38,6 +44,8 @@ fn damage(rng: &mut Rng, bytes: &mut Vec<u8>) {
         8 => bad_mode(rng, bytes, &fields),
         9 => flip(rng, bytes),
         10 => long(rng, bytes),
+        11 => old_start(bytes),
+        12..=14 => bad_ceilings(rng, bytes),
         _ => bytes.truncate(rng.pick(&[0, 0, field])),
     }
 }
@@ -56,12 +64,12 @@ fn fields(bytes: &[u8]) -> Vec<usize> {
     places
 }
 
-/// The start again, before a field or at the end; perhaps with a value too large.
+/// The start again, before a field or at the end; perhaps with a value or a ceiling too large.
 fn later_start(rng: &mut Rng, bytes: &mut Vec<u8>, field: usize) {
-    let length = value_length(1).map_or(0, |length| HEAD + length).min(bytes.len());
+    let length = START.min(bytes.len());
     let mut start = bytes[..length].to_vec();
     if rng.one_in(2) {
-        start[length - 1] = 255;
+        start[rng.pick(&[CEILINGS, START]).min(length) - 1] = 255;
     }
     let place = rng.pick(&[field, bytes.len()]);
     bytes.splice(place..place, start);
@@ -69,9 +77,40 @@ fn later_start(rng: &mut Rng, bytes: &mut Vec<u8>, field: usize) {
 
 /// A starting value of 2,147,483,648 or more.
 fn large_value(rng: &mut Rng, bytes: &mut [u8]) {
-    let value = HEAD + 4 + 4 * rng.index(32);
+    let value = VALUES + 4 * rng.index(SEMAPHORES);
     if let Some(highest) = bytes.get_mut(value + 3) {
         *highest |= 128;
+    }
+}
+
+/// A start without ceilings, and with the length of one.
+fn old_start(bytes: &mut Vec<u8>) {
+    if bytes.len() >= START {
+        bytes.drain(CEILINGS..START);
+        bytes[1] = (CEILINGS - HEAD) as u8;
+    }
+}
+
+/// Ceilings that are refused: none for customer 0, a sum of 21, one that is 20 or less only where
+/// it wraps at 16 bits, a single high byte. One in six has a value too large as well.
+fn bad_ceilings(rng: &mut Rng, bytes: &mut [u8]) {
+    let Some(field) = bytes.get_mut(CEILINGS..START) else {
+        return;
+    };
+    let mut ceilings: [u16; CUSTOMERS] =
+        std::array::from_fn(|customer| u16::from_le_bytes([field[2 * customer], field[2 * customer + 1]]));
+    let sum: u32 = ceilings.iter().map(|&ceiling| u32::from(ceiling)).sum();
+    let customer = rng.index(CUSTOMERS);
+    match rng.below(5) {
+        0 => ceilings[0] = 0,
+        1 => ceilings[customer] += 21u32.saturating_sub(sum) as u16,
+        2 => ceilings = [1, u16::MAX, 1, 0, 0, 0, 0, 0, rng.below(19) as u16],
+        3 => ceilings = [1 << 15, 0, 0, 1 << 15, 0, 0, 0, 0, rng.below(20) as u16],
+        _ => ceilings[customer] |= 256,
+    }
+    field.copy_from_slice(&ceilings.map(u16::to_le_bytes).concat());
+    if rng.one_in(6) {
+        large_value(rng, bytes);
     }
 }
 
@@ -93,7 +132,7 @@ fn flip(rng: &mut Rng, bytes: &mut [u8]) {
 fn long(rng: &mut Rng, bytes: &mut Vec<u8>) {
     let more = rng.below(1000) as usize;
     let length = MAX_BYTES + rng.pick(&[0, 1, 1, more]);
-    let events: Vec<u8> = bytes.iter().skip(HEAD + 132).copied().collect();
+    let events: Vec<u8> = bytes.iter().skip(START).copied().collect();
     bytes.extend(events.into_iter().cycle().take(length.saturating_sub(bytes.len())));
     bytes.resize(length, 0);
 }

@@ -5,6 +5,7 @@ use std::collections::VecDeque;
 pub const SLOTS: usize = 20;
 pub const SEMAPHORES: usize = 32;
 pub const SUB_DEVICES: usize = 48;
+pub const CUSTOMERS: usize = 9;
 /// "49 nucleus waiting lines: 48 sub-devices and the pseudo-clock."
 const NUCLEUS_LINES: usize = SUB_DEVICES + 1;
 const PSEUDO_CLOCK: usize = SUB_DEVICES;
@@ -123,18 +124,24 @@ pub(crate) struct Process {
     priority: u32,
     /// The support handle, 0 for none.
     pub(crate) handle: u32,
+    pub(crate) customer: usize,
     time: u64,
     /// Nothing while it runs.
     line: Option<Line>,
 }
 
-/// A start with a value above the limit: refusal 24.
+/// Why a start is refused.
 #[derive(Clone, Copy, Debug, PartialEq, Eq)]
-pub struct ValueTooLarge;
+pub enum StartRefusal {
+    ValueTooLarge = 24,
+    BadCeilings = 27,
+}
 
 #[derive(Clone, Debug, PartialEq, Eq)]
 pub struct Desk {
     slots: [Option<Process>; SLOTS],
+    /// How many of each customer may be alive.
+    pub(crate) ceilings: [u16; CUSTOMERS],
     pub(crate) running: Option<usize>,
     pub(crate) ready: VecDeque<usize>,
     pub(crate) values: [u32; SEMAPHORES],
@@ -152,12 +159,15 @@ pub struct Desk {
 
 impl Desk {
     /// "Id 1 is then running in slot 0, with no parent and no support handle."
-    pub fn fresh(clock: u32, values: [u32; SEMAPHORES]) -> Result<Self, ValueTooLarge> {
-        if values.iter().any(|&value| value > VALUE_MAX) {
-            return Err(ValueTooLarge);
-        }
+    pub fn fresh(
+        clock: u32,
+        values: [u32; SEMAPHORES],
+        ceilings: [u16; CUSTOMERS],
+    ) -> Result<Self, StartRefusal> {
+        allow(&values, &ceilings)?;
         let mut desk = Desk {
             slots: Default::default(),
+            ceilings,
             running: Some(0),
             ready: VecDeque::new(),
             values,
@@ -170,14 +180,16 @@ impl Desk {
             ended_time: 0,
             over: false,
         };
-        desk.slots[0] = Some(Process { id: 1, parent: 0, priority: 0, handle: 0, time: 0, line: None });
+        desk.slots[0] =
+            Some(Process { id: 1, parent: 0, priority: 0, handle: 0, customer: 0, time: 0, line: None });
         Ok(desk)
     }
 
     /// What stands beside a refused start: "the machine left when the start with the least
     /// numbers allowed ends its id 1 at once (call −2, clock unchanged)".
     pub fn refused() -> Self {
-        let mut desk = Desk::fresh(0, [0; SEMAPHORES]).expect("0 is allowed");
+        let least = [1, 0, 0, 0, 0, 0, 0, 0, 0];
+        let mut desk = Desk::fresh(0, [0; SEMAPHORES], least).expect("the least is allowed");
         desk.terminate(0, 0);
         desk
     }
@@ -252,19 +264,22 @@ impl Desk {
         }
     }
 
-    /// "Result: its id, or −1 exactly when 20 are alive or every id is issued."
+    /// "−1 exactly when the child's customer is at its ceiling, the named customer is above 8, or
+    /// ids have run out"
     fn create(&mut self, caller: usize, priority: u32, handle: u32) -> Answer {
         let action = Action::On(caller);
-        let free = self.slots.iter().position(Option::is_none);
-        let Some(slot) = free.filter(|_| self.last_id < ID_MAX) else {
+        let customer = self.child_customer(caller, priority);
+        if customer >= CUSTOMERS || self.at_ceiling(customer) || self.last_id == ID_MAX {
             return Answer::result(action, -1);
-        };
+        }
+        let slot = self.slots.iter().position(Option::is_none).expect("the ceilings leave a slot free");
         self.last_id += 1;
         self.slots[slot] = Some(Process {
             id: self.last_id,
             parent: self.process(caller).id,
             priority,
             handle,
+            customer,
             time: 0,
             line: None,
         });
@@ -442,6 +457,35 @@ impl Desk {
 
     pub(crate) fn alive(&self) -> usize {
         self.living().count()
+    }
+
+    /// "A child has its parent's customer, but when customer 0 creates, a2 / 256 names the
+    /// child's."
+    pub(crate) fn child_customer(&self, caller: usize, a2: u32) -> usize {
+        match self.process(caller).customer {
+            0 => (a2 / 256) as usize,
+            own => own,
+        }
+    }
+
+    pub(crate) fn living_of(&self, customer: usize) -> usize {
+        self.living().filter(|process| process.customer == customer).count()
+    }
+
+    pub(crate) fn at_ceiling(&self, customer: usize) -> bool {
+        self.living_of(customer) >= self.ceilings[customer].into()
+    }
+}
+
+/// "ceiling 0 is at least 1, and they may not sum above 20, else refusal 27 after 24"
+pub fn allow(values: &[u32; SEMAPHORES], ceilings: &[u16; CUSTOMERS]) -> Result<(), StartRefusal> {
+    let sum: usize = ceilings.iter().map(|&ceiling| usize::from(ceiling)).sum();
+    if values.iter().any(|&value| value > VALUE_MAX) {
+        Err(StartRefusal::ValueTooLarge)
+    } else if ceilings[0] == 0 || sum > SLOTS {
+        Err(StartRefusal::BadCeilings)
+    } else {
+        Ok(())
     }
 }
 

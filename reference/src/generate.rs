@@ -2,7 +2,8 @@
 //! looks at its tables before it writes the next event.
 
 use crate::desk::{
-    Call, Desk, Event, Interrupt, Kind, Mode, GAP_MAX, ID_MAX, SEMAPHORES, SUB_DEVICES, VALUE_MAX,
+    Call, Desk, Event, Interrupt, Kind, Mode, CUSTOMERS, GAP_MAX, ID_MAX, SEMAPHORES, SLOTS, SUB_DEVICES,
+    VALUE_MAX,
 };
 use crate::log::{Start, MAX_BYTES};
 use crate::rng::Rng;
@@ -12,7 +13,7 @@ type Topic = fn(&mut Generator) -> Kind;
 
 /// How often a topic comes up in logs, where much goes wrong, and in streams: a busy gateway.
 const MIX: [(Topic, u32, u32); 20] = [
-    (|g| g.kernel(-1, Generator::few), 14, 30),
+    (Generator::create, 14, 45),
     (|g| g.kernel(-2, Generator::target), 8, 15),
     (|g| g.p_or_v(-3), 14, 160),
     (|g| g.p_or_v(-4), 12, 150),
@@ -48,6 +49,8 @@ pub struct Generator {
     careful: usize,
     /// So many turns, after a kill that its caller survived, show who is behind whom.
     turns: usize,
+    /// Creates follow that name this customer, until one is denied.
+    flood: Option<u32>,
 }
 
 /// The log of a seed: `count` events, or as many as 65,536 bytes hold.
@@ -77,6 +80,14 @@ impl Generator {
         // Each log has its own mix, and may lack some topics, but it creates.
         generator.mix = MIX.map(|(topic, often, _)| (topic, often * rng.below(4))).to_vec();
         generator.mix.push((MIX[0].0, 4));
+        // A table for customer 0 alone, one that never fills, or one that does.
+        let fewer = 1 + rng.index(SLOTS);
+        generator.start.ceilings = match rng.below(5) {
+            0 => [SLOTS as u16, 0, 0, 0, 0, 0, 0, 0, 0],
+            1 => ceilings(rng, fewer),
+            _ => ceilings(rng, SLOTS),
+        };
+        generator.desk = generator.start.desk();
         generator
     }
 
@@ -93,10 +104,20 @@ impl Generator {
         let terminal = rng.below(8);
         let devices = [rng.below(32), rng.below(32), rng.below(48), 32 + terminal, 40 + terminal];
         let clock = rng.word();
-        let start = Start { clock: rng.pick(&[0, 1000, clock, u32::MAX - clock % 4096]), values };
-        let desk = start.desk();
-        let mix = MIX.map(|(topic, _, often)| (topic, often)).to_vec();
-        Generator { start, rng, desk, mix, stream: true, semaphores, devices, careful: usize::MAX, turns: 0 }
+        let clock = rng.pick(&[0, 1000, clock, u32::MAX - clock % 4096]);
+        let start = Start { clock, values, ceilings: ceilings(&mut rng, SLOTS) };
+        Generator {
+            start,
+            desk: start.desk(),
+            rng,
+            mix: MIX.map(|(topic, _, often)| (topic, often)).to_vec(),
+            stream: true,
+            semaphores,
+            devices,
+            careful: usize::MAX,
+            turns: 0,
+            flood: None,
+        }
     }
 
     /// The next event: tries some until one leaves the machine alive, as long as it should be.
@@ -110,6 +131,9 @@ impl Generator {
             if !after.over || self.careful == 0 {
                 if answer.killer_survives() && !self.stream {
                     self.turns = after.ready.len();
+                }
+                if answer.result == Some(-1) {
+                    self.flood = None;
                 }
                 self.desk = after;
                 self.careful = self.careful.saturating_sub(1);
@@ -143,6 +167,9 @@ impl Generator {
                 return self.rng.pick(&[Generator::yields, Generator::slice_end]);
             }
         }
+        if self.flood.is_some() && !self.desk.over && !self.rng.one_in(8) {
+            return Generator::create;
+        }
         let sum = self.mix.iter().map(|(_, often)| often).sum();
         let mut place = self.rng.below(sum);
         for &(topic, often) in &self.mix {
@@ -161,13 +188,46 @@ impl Generator {
         self.call(Mode::Kernel, a0, a1)
     }
 
-    /// Most children get a handle (a3), lest a trap end them.
     fn call(&mut self, mode: Mode, a0: i32, a1: u32) -> Kind {
         let a2 = self.rng.word() >> self.rng.below(32);
+        self.call_with(mode, a0, a1, a2)
+    }
+
+    /// Most children get a handle (a3), lest a trap end them.
+    fn call_with(&mut self, mode: Mode, a0: i32, a1: u32, a2: u32) -> Kind {
         let word = self.rng.word() | 1;
         let none = self.rng.one_in(if self.stream { 20 } else { 5 });
         let a3 = if none { 0 } else { self.rng.pick(&[1, 64, word, u32::MAX]) };
         Kind::Call(Call { mode, a0, a1, a2, a3 })
+    }
+
+    /// One create, or in a log the first of a flood.
+    fn create(&mut self) -> Kind {
+        let named = match self.flood {
+            Some(named) => named,
+            None => self.customer(),
+        };
+        if !self.stream && self.rng.one_in(8) {
+            self.flood = Some(named);
+        }
+        let priority = self.rng.byte() >> self.rng.below(8);
+        let a1 = self.few();
+        self.call_with(Mode::Kernel, -1, a1, named * 256 + u32::from(priority))
+    }
+
+    /// What a2 / 256 names: mostly a customer that may live, in streams one that has room; now and
+    /// then any, or none at all.
+    fn customer(&mut self) -> u32 {
+        let customers = 0..CUSTOMERS as u32;
+        let may_live = |&customer: &u32| self.desk.ceilings[customer as usize] > 0;
+        let has_room = |&customer: &u32| !self.stream || !self.desk.at_ceiling(customer as usize);
+        let usual: Vec<u32> = customers.filter(may_live).filter(has_room).collect();
+        let any = self.rng.word() / 256;
+        match self.rng.below(if self.stream { 100 } else { 12 }) {
+            0 => self.rng.pick(&[9, 10, 255, 256, 257, 256 + 8, 1 << 16, u32::MAX / 256, any]),
+            2.. if !usual.is_empty() => self.rng.pick(&usual),
+            _ => self.rng.below(CUSTOMERS as u32),
+        }
     }
 
     /// A word that matters little, often 0.
@@ -228,11 +288,12 @@ impl Generator {
     fn p_or_v(&mut self, a0: i32) -> Kind {
         let number = self.semaphore();
         let waited =
-            self.semaphores.into_iter().find(|&number| !self.desk.semaphores[number as usize].is_empty());
-        let (a0, a1) = match (self.desk.values.get(number as usize), waited) {
-            (_, Some(waited)) if a0 == -4 && self.rng.one_in(2) => (-4, waited),
-            (Some(4..0x4000_0000), _) => (-3, number),
-            (Some(0x4000_0000..0x7fff_fffc), _) => (-4, number),
+            (0..SEMAPHORES as u32).filter(|&number| !self.desk.semaphores[number as usize].is_empty());
+        let waited: Vec<u32> = waited.collect();
+        let (a0, a1) = match self.desk.values.get(number as usize) {
+            _ if a0 == -4 && !waited.is_empty() && self.rng.one_in(2) => (-4, self.rng.pick(&waited)),
+            Some(4..0x4000_0000) => (-3, number),
+            Some(0x4000_0000..0x7fff_fffc) => (-4, number),
             _ => (a0, number),
         };
         self.call(Mode::Kernel, a0, a1)
@@ -309,6 +370,16 @@ impl Generator {
         let byte = self.rng.byte();
         exception(self.rng.pick(&[8, 11, 29, 255, byte]))
     }
+}
+
+/// Ceilings that sum to this number: customer 0's, and those of up to three others.
+fn ceilings(rng: &mut Rng, sum: usize) -> [u16; CUSTOMERS] {
+    let customers = [0, rng.index(CUSTOMERS), rng.index(CUSTOMERS), rng.index(CUSTOMERS)];
+    let mut ceilings = [1, 0, 0, 0, 0, 0, 0, 0, 0];
+    for _ in 1..sum {
+        ceilings[rng.pick(&customers)] += 1;
+    }
+    ceilings
 }
 
 fn interrupt(line: u8, first: u8, second: u8) -> Kind {

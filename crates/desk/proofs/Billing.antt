@@ -50,7 +50,7 @@ unfolding gap
 gap-is m r now a b c h = omega arith
 
 abbrev pub charged : Machine → ℕ → List ℕ → ℕ → Machine
-charged m now ts i = record { ids = m .ids; taken = m .taken; parents = m .parents; priorities = m .priorities; handles = m .handles; times = ts; lines = m .lines; ready = m .ready; nready = m .nready; waits = m .waits; nwaits = m .nwaits; running = m .running; sems = m .sems; next = m .next; status = m .status; last = now; total = m .total + gap now (view m); idle = i; ended = m .ended }
+charged m now ts i = record { ids = m .ids; taken = m .taken; parents = m .parents; customers = m .customers; priorities = m .priorities; handles = m .handles; times = ts; lines = m .lines; ready = m .ready; nready = m .nready; waits = m .waits; nwaits = m .nwaits; running = m .running; sems = m .sems; ceilings = m .ceilings; next = m .next; status = m .status; last = now; total = m .total + gap now (view m); idle = i; ended = m .ended }
 
 module _ (m : Machine) (g : Shape m) (now : ℕ) (fits : m .total + gap now (view m) ≤ time-limit) where
   abbrev k : ℕ
@@ -58,7 +58,7 @@ module _ (m : Machine) (g : Shape m) (now : ℕ) (fits : m .total + gap now (vie
 
   -- a machine of the rule book that is charged
   abbrev with-charge : List Process → List Process → List Waiter → ℕ → book.Machine
-  with-charge r q w i = record { slots = base-slots; running = r; ready = q; waiting = w; sems = m .sems; next = m .next; status = status-of (m .status); last = now; total = m .total + k; idle = i; ended = m .ended }
+  with-charge r q w i = record { slots = base-slots; running = r; ready = q; waiting = w; sems = m .sems; ceilings = m .ceilings; next = m .next; status = status-of (m .status); last = now; total = m .total + k; idle = i; ended = m .ended }
 
   pub charge-idle : base-slots ≤ m .running → Step (charge now) m (charged m now (m .times) (m .idle + k))
   unfolding charge
@@ -81,7 +81,7 @@ module _ (m : Machine) (g : Shape m) (now : ℕ) (fits : m .total + gap now (vie
     c = charged m now ts (m .idle)
 
     timed : ℕ → Process → Process
-    timed v p = record { slot = p .slot; id = p .id; ancestors = p .ancestors; priority = p .priority; handle = p .handle; time = v }
+    timed v p = record { slot = p .slot; id = p .id; ancestors = p .ancestors; customer = p .customer; priority = p .priority; handle = p .handle; time = v }
 
     waits-timed : ℕ → Waiter → Waiter
     waits-timed v w = record { process = timed v (w .process); line = w .line }

@@ -26,7 +26,7 @@ use Rattle.desk.proofs.Seats.{seats-living, sizes, runs-one, runs-none,
 use Rattle.desk.proofs.Moves.{dispatched, dispatch-step, ready-first}
 
 abbrev pub put-status : ℕ → Machine → Machine
-put-status v m = record { ids = m .ids; taken = m .taken; parents = m .parents; priorities = m .priorities; handles = m .handles; times = m .times; lines = m .lines; ready = m .ready; nready = m .nready; waits = m .waits; nwaits = m .nwaits; running = m .running; sems = m .sems; next = m .next; status = v; last = m .last; total = m .total; idle = m .idle; ended = m .ended }
+put-status v m = record { ids = m .ids; taken = m .taken; parents = m .parents; customers = m .customers; priorities = m .priorities; handles = m .handles; times = m .times; lines = m .lines; ready = m .ready; nready = m .nready; waits = m .waits; nwaits = m .nwaits; running = m .running; sems = m .sems; ceilings = m .ceilings; next = m .next; status = v; last = m .last; total = m .total; idle = m .idle; ended = m .ended }
 
 -- the first of a list that is known
 pub first-known {ℓ κ} : {A : Type ℓ} {B : Type κ} (xs : List A) (y : A) (ys : List A) (none : B) (some : A → B) → xs ≡ y ∷ ys → first xs none some ≡ some y

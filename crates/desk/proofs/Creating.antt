@@ -1,4 +1,4 @@
--- The call −1, over machines alone: which slot is the lowest free one, when there is none, and what the call comes to.
+-- The call −1, over machines alone: which slot is the lowest free one, that there is one for a customer below its ceiling, and what the call comes to.
 -- Assumes nothing.
 use mathlib.Core.Path.{_≡_, refl, sym, ap, _∙_}
 use mathlib.Core.Bool.{Bool, true, false, not, _||_}
@@ -6,28 +6,50 @@ use mathlib.Core.List.{List, [], _∷_, map}
 use Prim.Native.Nat.{ℕ, zero, _+_, _<_, _≤_}
 use native.Mathlib.Omega.{arith}
 use native.Mathlib.Decide.{ℕ-discrete}
-use lib.Dec.{eqb, leb}
+use lib.Dec.{eqb, leb, ltb}
 use lib.IntN.{pos, negsuc}
 use lib.ListN.{length, getD, length-map}
-use borrow.Author.Tests.{eq-eqb, ne-eqb, eqb-true, lt-leb, lt-ltb, le-ltb}
+use borrow.Author.Tests.{eq-eqb, ne-eqb, eqb-true, leb-false, le-leb, lt-leb, lt-ltb, le-ltb}
 use Rattle.rules.specs.declared.Result.the-variants.{Says}
 use Rattle.rules.specs.Words.{if_then_else_, among}
-use Rattle.rules.specs.Numbers.{base-slots, top}
-use Rattle.rules.specs.Machine.{Process, living, lowest-free, birth}
+use Rattle.rules.specs.Numbers.{base-slots, base-customers, top}
+use Rattle.rules.specs.Machine.{Process, living, child-of, lowest-free, birth}
 use Rattle.rules.specs.Answers.{giving, bearing, plain}
-use Rattle.rules.specs.Rules.{create, carry-on, full}
-use Rattle.lines.specs.Lines.{firstWhere, isZero, occ, one}
+use Rattle.rules.specs.Rules.{create, carry-on, denied}
+use Rattle.rules.specs.Cases.{or-true}
+use Rattle.rules.specs.Sound.{Sound, or-right, below-ceiling, room}
+use Rattle.lines.specs.Lines.{firstWhere, isZero, occ, one, membersOf}
 use Rattle.lines.specs.declared.Found.the-variants.{At, Nothing}
-use Rattle.lines.proofs.Occ.{room-free, room-none}
+use Rattle.lines.proofs.Occ.{room-none}
 use Rattle.lines.proofs.Laws.{first-in}
 use Rattle.lines.proofs.Bridge.{found-passes, found-not}
 use Rattle.lines.proofs.Lowest.{lowest-is}
 use Rattle.desk.specs.declared.Machine.{Machine}
-use Rattle.desk.specs.View.{row, seats, view, live, Shape}
+use Rattle.desk.specs.View.{row, seats, view, Shape, at-ceiling}
 use Rattle.desk.specs.Contracts.{Step, with-result}
-use Rattle.desk.proofs.Seats.{live-le, seats-living, seats-slots}
+use Rattle.desk.proofs.Seats.{seats-living, seats-slots, members}
 use Rattle.desk.proofs.Newborns.{born, born-shape, birth-step}
 
+-- ---- "the child's customer is at its ceiling, the named customer is above 8"
+or-false : (b : Bool) → (b || false) ≡ b
+or-false true = refl
+or-false false = refl
+
+module _ (ids customers ceilings : List ℕ) (long : length ceilings ≡ base-customers) (c : ℕ) where
+  pub ceiling-none : base-customers ≤ c → at-ceiling ids customers ceilings c ≡ true
+  ceiling-none h = rw (le-leb (length ceilings) c (omega (arith, long))) (or-true (leb (getD ceilings c 0) (membersOf base-slots ids customers c)))
+
+  pub ceiling-some : c < base-customers → at-ceiling ids customers ceilings c ≡ leb (getD ceilings c 0) (membersOf base-slots ids customers c)
+  ceiling-some h = rw (lt-leb (length ceilings) c (omega (arith, long))) (or-false (leb (getD ceilings c 0) (membersOf base-slots ids customers c)))
+
+abbrev pub at-its-ceiling : Machine → ℕ → Bool
+at-its-ceiling m c = at-ceiling (m .ids) (m .customers) (m .ceilings) c
+
+-- the customer of a child of whoever runs
+abbrev pub child : Machine → ℕ → ℕ
+child m priority = child-of (getD (m .customers) (m .running) 0) priority
+
+-- ---- the lowest free slot
 -- the slots that rows hold
 abbrev held : Machine → List ℕ → List ℕ
 held m l = map (λ (p : Process). p .slot) (map (row m) l)
@@ -53,23 +75,10 @@ module _ (m : Machine) (g : Shape m) where
   size : length (living (view m)) ≡ length (seats m)
   size = ap length (seats-living m) ∙ length-map (seats m) (row m)
 
-  -- "every id is issued"
-  full-ids : top < m .next → full (view m) ≡ true
-  unfolding full
-  full-ids h = rw (lt-ltb top (m .next) h) (go (leb base-slots (length (living (view m)))))
-    where
-      go : (t : Bool) → (t || true) ≡ true
-      go true = refl
-      go false = refl
-
-  -- "20 are alive"
-  full-slots : length (seats m) ≡ base-slots → full (view m) ≡ true
-  unfolding full
-  full-slots h = rw (size, h)
-
-  not-full : length (seats m) < base-slots → m .next ≤ top → full (view m) ≡ false
-  unfolding full
-  not-full h k = rw (size, lt-leb base-slots (length (seats m)) h, le-ltb top (m .next) k)
+  -- "the child's customer is at its ceiling, the named customer is above 8, or ids have run out": the first two by the rows and the ceilings
+  pub denied-is : (c : ℕ) → denied c (view m) ≡ (at-its-ceiling m c || ltb top (m .next))
+  unfolding denied
+  denied-is c = rw (members m g c)
 
   -- no row is free
   none-left : firstWhere isZero 0 (m .ids) ≡ Nothing → length (seats m) ≡ base-slots
@@ -88,31 +97,46 @@ module _ (m : Machine) (g : Shape m) where
     unfolding lowest-free
     lowest-found = rw (seats-living m) (lowest-is base-slots (held m (seats m)) (m .ids) (g .ids-long) taken s e)
 
-    some-left : length (seats m) < base-slots
-    some-left =
-        room-free base-slots (seats m) (seats-slots m g) s found-slot (g .homes s found-slot ∙ ap live found-free)
-        (λ x b. omega (arith, g .homes x b, live-le (getD (m .ids) x 0)))
-
   module _ (priority handle : ℕ) where
-    -- "−1 exactly when 20 are alive or every id is issued"
-    denied : full (view m) ≡ true → create (row m (m .running)) 0 priority handle (view m) ≡ carry-on (row m (m .running)) (with-result (Says (negsuc 0))) (view m)
+    -- "create now gives −1 exactly when .."
+    refused : denied (child m priority) (view m) ≡ true → create (row m (m .running)) 0 priority handle (view m) ≡ carry-on (row m (m .running)) (with-result (Says (negsuc 0))) (view m)
     unfolding create
-    denied e = rw e
+    refused e = rw e
 
     pub create-ids : top < m .next → create (row m (m .running)) 0 priority handle (view m) ≡ carry-on (row m (m .running)) (with-result (Says (negsuc 0))) (view m)
-    create-ids k = denied (full-ids k)
+    create-ids k = refused (denied-is (child m priority) ∙ rw (lt-ltb top (m .next) k) (or-true (at-its-ceiling m (child m priority))))
 
-    pub create-slots : firstWhere isZero 0 (m .ids) ≡ Nothing → create (row m (m .running)) 0 priority handle (view m) ≡ carry-on (row m (m .running)) (with-result (Says (negsuc 0))) (view m)
-    create-slots e = denied (full-slots (none-left e))
+    pub create-ceiling : at-its-ceiling m (child m priority) ≡ true → create (row m (m .running)) 0 priority handle (view m) ≡ carry-on (row m (m .running)) (with-result (Says (negsuc 0))) (view m)
+    create-ceiling e = refused (denied-is (child m priority) ∙ rw e)
 
-    module _ (h : m .running < base-slots) (s : ℕ) (e : firstWhere isZero 0 (m .ids) ≡ At s) where
-      pub create-shape : Shape (born m s priority handle)
-      create-shape = born-shape m g h s priority handle (found-slot s e) (found-free s e)
+    pub create-shape : m .running < base-slots → (s : ℕ) → firstWhere isZero 0 (m .ids) ≡ At s → Shape (born m s (child m priority) priority handle)
+    create-shape h s e = born-shape m g h s (child m priority) priority handle (found-slot s e) (found-free s e)
 
-      pub create-born : m .next ≤ top
-          → create (row m (m .running)) 0 priority handle (view m) ≡ carry-on (row (born m s priority handle) (m .running)) (giving (pos (m .next)) (bearing s plain)) (view (born m s priority handle))
+    -- below the ceiling, with ids left
+    module _ (below : at-its-ceiling m (child m priority) ≡ false) (k : m .next ≤ top) where
+      granted : denied (child m priority) (view m) ≡ false
+      granted = denied-is (child m priority) ∙ rw (below, le-ltb top (m .next) k)
+
+      -- "0 to 8"
+      pub create-customer : child m priority < base-customers
+      create-customer =
+          omega (
+            arith,
+            leb-false (length (m .ceilings)) (child m priority)
+                (or-right (leb (getD (m .ceilings) (child m priority) 0) (membersOf base-slots (m .ids) (m .customers) (child m priority))) (leb (length (m .ceilings)) (child m priority)) below),
+            g .ceilings-long,
+          )
+
+      -- a slot is free: that none is left cannot be
+      pub create-slots : Sound (view m) → firstWhere isZero 0 (m .ids) ≡ Nothing → ⊥
+      create-slots sound e = omega (arith, room (child m priority) (view m) sound (below-ceiling (child m priority) (view m) granted), size, none-left e)
+
+      pub create-born : m .running < base-slots → (s : ℕ) → firstWhere isZero 0 (m .ids) ≡ At s
+          → create (row m (m .running)) 0 priority handle (view m)
+          ≡ carry-on (row (born m s (child m priority) priority handle) (m .running)) (giving (pos (m .next)) (bearing s plain)) (view (born m s (child m priority) priority handle))
       unfolding create carry-on
-      create-born k =
+      create-born h s e =
           let low = lowest-found s e in
-          let st : Step (birth (row m (m .running)) priority handle) m (born m s priority handle) = birth-step m g h s priority handle (found-slot s e) (found-free s e) low in
-          rw (not-full (some-left s e) k, low) (ap (carry-on (row m (m .running)) (giving (pos (m .next)) (bearing s plain))) (sym (st .seen)))
+          let st : Step (birth (row m (m .running)) priority handle) m (born m s (child m priority) priority handle) =
+          birth-step m g h s (child m priority) priority handle (found-slot s e) (found-free s e) low refl in
+          rw (granted, low) (ap (carry-on (row m (m .running)) (giving (pos (m .next)) (bearing s plain))) (sym (st .seen)))

@@ -17,7 +17,7 @@ use Rattle.rules.specs.declared.Result.the-variants.{Silent, Says}
 use Rattle.rules.specs.declared.Part.the-variants.{Absent}
 use Rattle.rules.specs.declared.Answer.{Answer}
 use Rattle.rules.specs.Words.{if_then_else_, first, those, any}
-use Rattle.rules.specs.Cases.{All}
+use Rattle.rules.specs.Cases.{All, or-true}
 use Rattle.rules.specs.Numbers.{base-slots}
 use Rattle.rules.specs.Machine as book
 use Rattle.rules.specs.Machine.{Process, living, named, family, family-of, kill, back}
@@ -101,10 +101,6 @@ unfolding occ
 any-occurs t [] s b e = absurd (omega arith)
 any-occurs t (x ∷ l) s b e = go (ℕ-discrete x s) (λ c. any-occurs t l s c e)
   where
-    or-true : (b : Bool) → (b || true) ≡ true
-    or-true true = refl
-    or-true false = refl
-
     go : Dec (x ≡ s) → (1 ≤ occ s l → any t l ≡ true) → (t x || any t l) ≡ true
     go (yes q) ih = rw (ap t q ∙ e)
     go (no d) ih = rw (ih (omega (arith, one-other x s d))) (or-true (t x))

@@ -11,7 +11,7 @@ use Rattle.rules.specs.declared.Event.{Event}
 use Rattle.rules.specs.declared.Cause.the-variants.{Tlb, General}
 use Rattle.rules.specs.declared.Answer.{Answer}
 use Rattle.rules.specs.Words.{if_then_else_, first}
-use Rattle.rules.specs.Numbers.{base-slots, base-sems, gap-limit, time-limit, over, clock-back, time-full, nobody-runs, no-such-line, no-such-code}
+use Rattle.rules.specs.Numbers.{base-slots, base-sems, base-customers, gap-limit, time-limit, over, clock-back, time-full, nobody-runs, no-such-line, no-such-code}
 use Rattle.rules.specs.Machine.{Process, back, gap, charge}
 use Rattle.rules.specs.Answers.{Outcome, plain, refusing}
 use Rattle.rules.specs.Rules.{schedule, runner, pass-up-or-die, trap, tlb, tick, device-done, sub-device, interrupt, exception, clock, not-on, stopped, bad-line, bad-code, needs-runner, rows, refusal, refused, perform, step}
@@ -144,5 +144,5 @@ module _ (m : Machine) (g : Good m) (e : Event) (r : Answered) where
       record {
         seen = seen;
         same = λ no. absurd (no h);
-        good = record { shape = does .shape; tables = subst (Tables base-slots base-sems) (ap (λ (o : Outcome). o .after) seen) (keeps base-slots base-sems (view m) e (g .tables)) };
+        good = record { shape = does .shape; tables = subst (Tables base-slots base-sems base-customers) (ap (λ (o : Outcome). o .after) seen) (keeps base-slots base-sems base-customers (view m) e (g .tables)) };
       }

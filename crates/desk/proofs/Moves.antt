@@ -28,7 +28,7 @@ use Rattle.desk.proofs.Seats.{Seat, Waits, occ-self, occ-nobody, occ-se
 
 -- the same tables, but for who is where
 abbrev pub put-places : ℕ → List ℕ → ℕ → List ℕ → ℕ → List ℕ → Machine → Machine
-put-places r q n w k ls m = record { ids = m .ids; taken = m .taken; parents = m .parents; priorities = m .priorities; handles = m .handles; times = m .times; lines = ls; ready = q; nready = n; waits = w; nwaits = k; running = r; sems = m .sems; next = m .next; status = m .status; last = m .last; total = m .total; idle = m .idle; ended = m .ended }
+put-places r q n w k ls m = record { ids = m .ids; taken = m .taken; parents = m .parents; customers = m .customers; priorities = m .priorities; handles = m .handles; times = m .times; lines = ls; ready = q; nready = n; waits = w; nwaits = k; running = r; sems = m .sems; ceilings = m .ceilings; next = m .next; status = m .status; last = m .last; total = m .total; idle = m .idle; ended = m .ended }
 
 -- each slot is seated as often as before, and the codes are those of the waiting
 pub moved-shape : (m : Machine) → Shape m → (r : ℕ) (q : List ℕ) (n : ℕ) (w : List ℕ) (k : ℕ) (ls : List ℕ)
@@ -40,11 +40,13 @@ moved-shape m g r q n w k ls runs ready waits long homes codes = record {
   ids-long = g .ids-long;
   taken-mask = g .taken-mask;
   parents-long = g .parents-long;
+  customers-long = g .customers-long;
   priorities-long = g .priorities-long;
   handles-long = g .handles-long;
   times-long = g .times-long;
   lines-long = long;
   sems-long = g .sems-long;
+  ceilings-long = g .ceilings-long;
   ready-line = ready;
   waits-line = waits;
   runner = runs;
@@ -54,6 +56,7 @@ moved-shape m g r q n w k ls runs ready waits long homes codes = record {
   once = g .once;
   issued = g .issued;
   parent = g .parent;
+  no-customer = g .no-customer;
   no-priority = g .no-priority;
   no-handle = g .no-handle;
   no-time = g .no-time;

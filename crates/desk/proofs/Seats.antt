@@ -9,13 +9,15 @@ use native.Mathlib.Decide.{ℕ-discrete}
 use lib.Dec.{eqb, ltb, leb}
 use lib.ListN.{length, take, getD, length-append}
 use borrow.Author.Tests.{ne-eqb, ltb-true, lt-ltb, le-ltb}
-use Rattle.rules.specs.Words.{if_then_else_, those, any}
+use Rattle.rules.specs.Words.{if_then_else_, those, any, sum, count}
 use Rattle.rules.specs.Cases.{All}
+use Rattle.rules.specs.Sums.{sum-over}
 use Rattle.rules.specs.Numbers.{base-slots, base-sems}
 use Rattle.rules.specs.Machine as book
-use Rattle.rules.specs.Machine.{Process, Waiter, living, at, line, nucleus, nucleus-waits}
-use Rattle.lines.specs.Lines.{Line, InSlots, occ, one, inLine, aboveLine}
+use Rattle.rules.specs.Machine.{Process, Waiter, living, living-of, at, line, nucleus, nucleus-waits}
+use Rattle.lines.specs.Lines.{Line, InSlots, occ, one, inLine, aboveLine, membersOf}
 use Rattle.lines.proofs.Occ.{occ-append, one-same, length-occ, room-free, tally-le, tally-ones}
+use Rattle.lines.proofs.Members.{members-seated}
 use Rattle.lines.proofs.Laws.{line-size}
 use Rattle.lines.proofs.Bridge.{those-map, any-map, those-same, any-same, occurring, occ-slot, slots-append}
 use Rattle.desk.specs.declared.Machine.{Machine}
@@ -142,6 +144,13 @@ module _ (m : Machine) (g : Shape m) where
 
   pub room-both : m .nready + m .nwaits ≤ base-slots
   room-both = omega (arith, few, sizes)
+
+  -- the living of a customer, slot by slot
+  pub members : (c : ℕ) → living-of c (view m) ≡ membersOf base-slots (m .ids) (m .customers) c
+  members c =
+      ap (sum (λ (p : Process). count (eqb c (p .customer)))) (seats-living m)
+      ∙ sum-over (λ (p : Process). count (eqb c (p .customer))) (row m) (seats m)
+      ∙ members-seated (m .ids) (m .customers) c base-slots (seats m) seats-slots (g .homes)
 
   -- ---- the parts of the view
   pub runs-one : m .running < base-slots → view m .running ≡ row m (m .running) ∷ []

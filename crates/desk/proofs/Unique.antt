@@ -155,6 +155,7 @@ module _ (a b : Machine) (g : Shape a) (h : Shape b) (e : view a ≡ view b) whe
       let ids = array (a .ids) (b .ids) (g .ids-long) (h .ids-long) ids-same in
       let taken : a .taken ≡ b .taken = g .taken-mask ∙ ap (takenMask base-slots) ids ∙ sym (h .taken-mask) in
       let parents = array (a .parents) (b .parents) (g .parents-long) (h .parents-long) parents-same in
+      let customers = array (a .customers) (b .customers) (g .customers-long) (h .customers-long) (each _ (λ s p q r. ap (λ (x : Process). x .customer) r) (λ s k x y. g .no-customer s k x ∙ sym (h .no-customer s k y))) in
       let priorities = array (a .priorities) (b .priorities) (g .priorities-long) (h .priorities-long) (each _ (λ s p q r. ap (λ (x : Process). x .priority) r) (λ s k x y. g .no-priority s k x ∙ sym (h .no-priority s k y))) in
       let handles = array (a .handles) (b .handles) (g .handles-long) (h .handles-long) (each _ (λ s p q r. ap (λ (x : Process). x .handle) r) (λ s k x y. g .no-handle s k x ∙ sym (h .no-handle s k y))) in
       let times = array (a .times) (b .times) (g .times-long) (h .times-long) (each _ (λ s p q r. ap (λ (x : Process). x .time) r) (λ s k x y. g .no-time s k x ∙ sym (h .no-time s k y))) in
@@ -164,6 +165,7 @@ module _ (a b : Machine) (g : Shape a) (h : Shape b) (e : view a ≡ view b) whe
         ids = ids i;
         taken = taken i;
         parents = parents i;
+        customers = customers i;
         priorities = priorities i;
         handles = handles i;
         times = times i;
@@ -174,6 +176,7 @@ module _ (a b : Machine) (g : Shape a) (h : Shape b) (e : view a ≡ view b) whe
         nwaits = waits .1 i;
         running = running-same i;
         sems = e i .sems;
+        ceilings = e i .ceilings;
         next = e i .next;
         status = status i;
         last = e i .last;
@@ -183,8 +186,8 @@ module _ (a b : Machine) (g : Shape a) (h : Shape b) (e : view a ≡ view b) whe
       }
 
 -- a start has one machine and one number
-pub start-unique : (now : ℕ) (values : List ℕ) (r s : Started) → Starts now values r → Starts now values s → r ≡ s
-start-unique now values r s x y =
+pub start-unique : (now : ℕ) (values ceilings : List ℕ) (r s : Started) → Starts now values ceilings r → Starts now values ceilings s → r ≡ s
+start-unique now values ceilings r s x y =
     let v = view-unique (r .machine) (s .machine) (x .good .shape) (y .good .shape) (x .seen ∙ sym (y .seen)) in
     let n = x .number ∙ sym (y .number) in
     λ i. record { refusal = n i; machine = v i }

@@ -16,7 +16,8 @@ use Rattle.rules.specs.Words.{front}
 use Rattle.rules.specs.Machine as book
 use Rattle.rules.specs.Machine.{line, wake, wake-all, kill, family-of}
 use Rattle.rules.specs.Answers.{Outcome, mask}
-use Rattle.rules.specs.Rules.{refusal, step, start, start-refusal}
+use Rattle.rules.specs.Starts.{start-refusal}
+use Rattle.rules.specs.Rules.{refusal, step, start}
 use Rattle.desk.specs.declared.Machine.{Machine}
 use Rattle.desk.specs.declared.Started.{Started}
 use Rattle.desk.specs.declared.Woken.{Woken}
@@ -27,9 +28,9 @@ use Rattle.desk.specs.View.{view, Shape, Good, kin}
 -- ── Public ──
 
 -- a start: the rule book's machine and number
-pub record Starts (now : ℕ) (values : List ℕ) (r : Started) : Type 0 where
-  pub seen : view (r .machine) ≡ start base-slots now values
-  pub number : r .refusal ≡ start-refusal values
+pub record Starts (now : ℕ) (values ceilings : List ℕ) (r : Started) : Type 0 where
+  pub seen : view (r .machine) ≡ start base-slots now values ceilings
+  pub number : r .refusal ≡ start-refusal base-slots values ceilings
   pub good : Good (r .machine)
 
 -- an event: the rule book's answer and machine; where refused, the very same machine

@@ -1,16 +1,16 @@
 -- The machine of the rule book that a machine in code stands for, and the rule that its tables obey.
 use mathlib.Core.Path.{_≡_}
-use mathlib.Core.Bool.{Bool, true, false}
+use mathlib.Core.Bool.{Bool, true, false, _||_}
 use mathlib.Core.List.{List, [], _∷_, _++_, map}
 use Prim.Native.Nat.{ℕ, zero, suc, _+_, _<_, _≤_}
 use lib.ListN.{length, take, getD}
-use lib.Dec.{eqb, ltb}
+use lib.Dec.{eqb, leb, ltb}
 use Rattle.rules.specs.Machine as book
 use Rattle.rules.specs.Machine.{Process, Waiter}
-use Rattle.rules.specs.Numbers.{base-slots, base-sems, time-limit}
+use Rattle.rules.specs.Numbers.{base-slots, base-sems, base-customers, time-limit}
 use Rattle.rules.specs.Words.{if_then_else_, among}
 use Rattle.rules.specs.Tables.{Tables}
-use Rattle.lines.specs.Lines.{Line, occ, entry, tally, takenMask}
+use Rattle.lines.specs.Lines.{Line, occ, entry, tally, takenMask, membersOf}
 use Rattle.desk.specs.declared.Machine.{Machine}
 use Rattle.desk.specs.Codes.{decode, last-code, status-of}
 
@@ -36,6 +36,7 @@ row m s = record {
   slot = s;
   id = getD (m .ids) s 0;
   ancestors = elders (m .parents) (m .ids) s;
+  customer = getD (m .customers) s 0;
   priority = getD (m .priorities) s 0;
   handle = getD (m .handles) s 0;
   time = getD (m .times) s 0;
@@ -61,6 +62,7 @@ seats m = occupant (m .running) ++ (readies m ++ waiters m)
 abbrev pub view : Machine → book.Machine
 view m = record {
   slots = base-slots;
+  ceilings = m .ceilings;
   running = map (row m) (occupant (m .running));
   ready = map (row m) (readies m);
   waiting = map (waiter m) (waiters m);
@@ -94,11 +96,13 @@ pub record Shape (m : Machine) : Type 0 where
   pub ids-long : length (m .ids) ≡ base-slots
   pub taken-mask : m .taken ≡ takenMask base-slots (m .ids)
   pub parents-long : length (m .parents) ≡ base-slots
+  pub customers-long : length (m .customers) ≡ base-slots
   pub priorities-long : length (m .priorities) ≡ base-slots
   pub handles-long : length (m .handles) ≡ base-slots
   pub times-long : length (m .times) ≡ base-slots
   pub lines-long : length (m .lines) ≡ base-slots
   pub sems-long : length (m .sems) ≡ base-sems
+  pub ceilings-long : length (m .ceilings) ≡ base-customers
   pub ready-line : Line base-slots (m .ready) (m .nready)
   pub waits-line : Line base-slots (m .waits) (m .nwaits)
   pub runner : m .running ≤ base-slots
@@ -108,6 +112,7 @@ pub record Shape (m : Machine) : Type 0 where
   pub once : (s t : ℕ) → s < base-slots → t < base-slots → 0 < getD (m .ids) s 0 → getD (m .ids) s 0 ≡ getD (m .ids) t 0 → s ≡ t
   pub issued : (s : ℕ) → s < base-slots → getD (m .ids) s 0 < m .next
   pub parent : Kin (m .parents) (m .ids)
+  pub no-customer : (s : ℕ) → s < base-slots → getD (m .ids) s 0 ≡ 0 → getD (m .customers) s 0 ≡ 0
   pub no-priority : (s : ℕ) → s < base-slots → getD (m .ids) s 0 ≡ 0 → getD (m .priorities) s 0 ≡ 0
   pub no-handle : (s : ℕ) → s < base-slots → getD (m .ids) s 0 ≡ 0 → getD (m .handles) s 0 ≡ 0
   pub no-time : (s : ℕ) → s < base-slots → getD (m .ids) s 0 ≡ 0 → getD (m .times) s 0 ≡ 0
@@ -118,7 +123,7 @@ pub record Shape (m : Machine) : Type 0 where
 -- THE RULE, and the one premise of every public operation: the layout, and the rule book's own rule of what it stands for
 pub record Good (m : Machine) : Type 0 where
   pub shape : Shape m
-  pub tables : Tables base-slots base-sems (view m)
+  pub tables : Tables base-slots base-sems base-customers (view m)
 
 -- ── Families ──
 
@@ -130,3 +135,9 @@ kin parents ids n s = among n (getD ids s 0 ∷ elders parents ids s)
 pub record Marks (parents ids : List ℕ) (n : ℕ) (ds : List Bool) : Type 0 where
   pub long : length ds ≡ base-slots
   pub each : (s : ℕ) → s < base-slots → getD ds s false ≡ kin parents ids n s
+
+-- ── Customers ──
+
+-- 02, (ii): "the child's customer is at its ceiling, the named customer is above 8", where rows and ceilings are these
+abbrev pub at-ceiling : List ℕ → List ℕ → List ℕ → ℕ → Bool
+at-ceiling ids customers ceilings c = leb (getD ceilings c 0) (membersOf base-slots ids customers c) || leb (length ceilings) c

@@ -3,12 +3,15 @@ ghost use mathlib.Core.Path.{_≡_};
 ghost use Prim.Native.Nat.{_<_, _≤_};
 ghost use lib.IntN.{pos};
 ghost use Rattle.rules.specs.declared.Result.the-variants.{Says};
-ghost use Rattle.rules.specs.Numbers.{base-slots, time-limit};
+ghost use Rattle.rules.specs.Numbers.{base-slots, base-customers, time-limit};
 ghost use Rattle.rules.specs.Words.{if_then_else_};
+ghost use Rattle.rules.specs.Machine.{child-of};
+ghost use Rattle.rules.specs.Sound.{Sound};
 ghost use Rattle.rules.specs.Rules.{call, create, terminate, passeren, verhogen, do-io, cpu-time, support, identity, carry-on};
 ghost use lib.Dec.{eqb};
 ghost use Rattle.desk.specs.Codes.{call-code};
-ghost use Rattle.desk.specs.View.{view, row, Shape};
+ghost use lib.ListN.{length};
+ghost use Rattle.desk.specs.View.{view, row, Shape, at-ceiling};
 ghost use Rattle.desk.specs.Contracts.{Comes, with-result};
 use crate::Answered;
 use crate::Machine;
@@ -16,13 +19,16 @@ use crate::bare;
 use crate::so_far;
 use lines::Found;
 use lines::find_id;
+use lines::living_of;
 use lines::lowest_free;
 use lines::power;
 use lines::push;
+use rules::CUSTOMERS;
 use rules::Cause;
 use rules::Mode;
 use rules::Part;
 use rules::Result;
+use rules::SLOTS;
 
 // A number as a result.
 fn says(n: u64) -> Result
@@ -40,6 +46,37 @@ fn named(a1: u32, own: u32) -> u32
         return own;
     }
     a1
+}
+
+// "a2 / 256 names the child's"
+const UNIT: u32 = 256;
+
+// "A child has its parent's customer, but when customer 0 creates, a2 / 256 names the child's."
+fn child_of(own: u8, a2: u32) -> u32
+    ensures { λ r. ⌜ r ≡ child-of own a2 ⌝ }
+{
+    if own == 0 {
+        return a2 / UNIT;
+    }
+    own as u32
+}
+
+// 02, (ii): "the child's customer is at its ceiling, the named customer is above 8".
+fn at_ceiling<'a>(
+    ids: &'a [u32; SLOTS],
+    customers: &'a [u8; SLOTS],
+    ceilings: &'a [u16; CUSTOMERS],
+    customer: u32,
+) -> bool
+    requires { ⌜ length (now ceilings) ≡ base-customers ⌝ }
+    ensures { λ r. ⌜ r ≡ at-ceiling (now (ids .entry)) (now (customers .entry)) (now (ceilings .entry)) customer ⌝ }
+{
+    let c = customer as usize;
+    if CUSTOMERS <= c {
+        return true;
+    }
+    let alive = living_of(ids, customers, c as u8);
+    ceilings[c] <= alive as u16
 }
 
 // The call that an a0 from −1 to −10 names, and 0 for any other.
@@ -71,19 +108,24 @@ impl Machine {
         self.carries_on(x)
     }
 
-    // −1: "The newborn is the caller's child, last in the ready line, time 0."
+    // −1: "The newborn is the caller's child, last in the ready line, time 0." A customer below its ceiling always finds a
+    // free slot: that none is left cannot be.
     pub(crate) fn create(mut self, a2: u32, a3: u32) -> Answered
-        requires { ⌜ Shape self × (self .running < base-slots) ⌝ }
+        requires { ⌜ Shape self × (self .running < base-slots) × Sound (view self) ⌝ }
         ensures { λ r. ⌜ Comes (create (row self (self .running)) 0 a2 a3 (view self)) r ⌝ }
     {
+        let at = self.running;
         let id = self.next;
         if Machine::TOP < id {
+            return self.replies(Result::Says(-1));
+        }
+        let customer = child_of(self.customers[at], a2);
+        if at_ceiling(&self.ids, &self.customers, &self.ceilings, customer) {
             return self.replies(Result::Says(-1));
         }
         let Found::At(s) = lowest_free(self.taken) else {
             return self.replies(Result::Says(-1));
         };
-        let at = self.running;
         let slot = s as u8;
         let n = self.nready;
         push(&mut self.ready, n, slot);
@@ -91,6 +133,7 @@ impl Machine {
         self.ids[s] = id;
         self.taken = self.taken + power(s);
         self.parents[s] = at as u8 + 1;
+        self.customers[s] = customer as u8;
         self.priorities[s] = a2;
         self.handles[s] = a3;
         self.next = id + 1;
@@ -222,7 +265,7 @@ impl Machine {
     // A call: a program trap in user mode, for a0 = 0 and below −10; passed up for a0 of 1 or more.
     // −7 "waits for the pseudo-clock, always"; −10 goes "to the end of the ready line, then schedule".
     pub(crate) fn call(self, mode: Mode, a0: i32, a1: u32, a2: u32, a3: u32) -> Answered
-        requires { ⌜ Shape self × (self .running < base-slots) ⌝ }
+        requires { ⌜ Shape self × (self .running < base-slots) × Sound (view self) ⌝ }
         ensures { λ r. ⌜ Comes (call mode a0 a1 a2 a3 (view self)) r ⌝ }
     {
         let Mode::Kernel = mode else {

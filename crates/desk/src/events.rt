@@ -3,6 +3,7 @@ ghost use mathlib.Core.Path.{_≡_};
 ghost use mathlib.Core.Bool.{false, _&&_, _||_};
 ghost use Prim.Native.Nat.{_<_, _≤_};
 ghost use lib.Dec.{leb, eqb};
+ghost use Rattle.rules.specs.Sound.{Sound};
 ghost use Rattle.rules.specs.Numbers.{base-slots, no-such-line, no-such-code};
 ghost use Rattle.rules.specs.Words.{if_then_else_};
 ghost use Rattle.rules.specs.Answers.{refusing, plain};
@@ -158,7 +159,7 @@ impl Machine {
 
     // What an accepted event does, its gap charged.
     pub(crate) fn perform(self, e: Event) -> Answered
-        requires { ⌜ Shape self × (bad-line e ≡ false) × ((needs-runner e && leb base-slots (self .running)) ≡ false) ⌝ }
+        requires { ⌜ Shape self × (bad-line e ≡ false) × ((needs-runner e && leb base-slots (self .running)) ≡ false) × Sound (view self) ⌝ }
         ensures { λ r. ⌜ Comes (perform e (view self)) r ⌝ }
     {
         match e {

@@ -12,7 +12,6 @@ use crate::Machine;
 use crate::bare;
 use crate::does;
 use crate::so_far;
-use lines::SLOTS;
 use lines::drop_marked;
 use lines::mask;
 use lines::spared;
@@ -24,6 +23,7 @@ use rules::Action;
 use rules::Cause;
 use rules::Part;
 use rules::Result;
+use rules::SLOTS;
 
 // Whether the process in a slot has the id, or descends from who has it.
 fn descends<'a>(ids: &'a [u32; SLOTS], parents: &'a [u8; SLOTS], from: usize, id: u32) -> bool
@@ -73,6 +73,7 @@ impl Machine {
         self.running = spared(at, &doomed);
         strike(&mut self.ids, &doomed);
         strike_bytes(&mut self.parents, &doomed);
+        strike_bytes(&mut self.customers, &doomed);
         strike(&mut self.priorities, &doomed);
         strike(&mut self.handles, &doomed);
         strike_times(&mut self.times, &doomed);

@@ -1,29 +1,33 @@
 // The desk: tables and one event in, new tables and the answer out. The machine is a value; its tables are private.
 ghost use mathlib.Core.Path.{_≡_};
 ghost use Rattle.rules.specs.Answers.{doing, plain};
-use lines::SLOTS;
 use rules::Action;
 use rules::Answer;
+use rules::CUSTOMERS;
 use rules::Part;
 use rules::Result;
+use rules::SEMAPHORES;
+use rules::SLOTS;
+use rules::TOP;
 
 mod calls;
 mod charges;
 mod events;
+mod fresh;
 mod interrupts;
 mod kills;
 mod lines_of;
 pub mod looks;
 mod schedules;
-mod starts;
 
-// By slot: ids (0 is free), with the taken slots as a mask beside them; the parent's slot and one more (0 is none), priorities, handles, times, and the code of the
+// By slot: ids (0 is free), with the taken slots as a mask beside them; the parent's slot and one more (0 is none), customers, priorities, handles, times, and the code of the
 // line that a slot waits in (0 is none). The ready line and the waiting, slots in order, each with its length. Who runs
-// (the number of slots stands for nobody). Free rows and unused places are zero.
+// (the number of slots stands for nobody). By customer: how many it may have alive. Free rows and unused places are zero.
 pub struct Machine {
     ids: [u32; SLOTS],
     taken: u64,
     parents: [u8; SLOTS],
+    customers: [u8; SLOTS],
     priorities: [u32; SLOTS],
     handles: [u32; SLOTS],
     times: [u64; SLOTS],
@@ -33,7 +37,8 @@ pub struct Machine {
     waits: [u8; SLOTS],
     nwaits: usize,
     running: usize,
-    sems: [u32; 32],
+    sems: [u32; SEMAPHORES],
+    ceilings: [u16; CUSTOMERS],
     next: u32,
     status: u8,
     last: u32,
@@ -44,12 +49,15 @@ pub struct Machine {
 
 // "The limits belong to the machine's type."
 impl Machine {
-    pub const SLOTS: usize = 20;
+    pub const SLOTS: usize = SLOTS;
 
-    pub const SEMAPHORES: usize = 32;
+    pub const SEMAPHORES: usize = SEMAPHORES;
+
+    // customers 0 to 8
+    pub const CUSTOMERS: usize = CUSTOMERS;
 
     // the highest id, and the highest value of a semaphore
-    pub const TOP: u32 = 2147483647;
+    pub const TOP: u32 = TOP;
 
     // the most that accepted gaps may sum to
     pub const TIME: u64 = 4611686018427387904;

@@ -7,16 +7,16 @@ ghost use lib.ListN.{length};
 ghost use Rattle.rules.specs.Numbers.{base-slots};
 ghost use Rattle.rules.specs.Rules.{value};
 ghost use Rattle.rules.specs.Answers.{mask};
-ghost use Rattle.rules.specs.Machine.{living};
+ghost use Rattle.rules.specs.Machine.{living, living-of, ceiling};
 ghost use Rattle.lines.specs.Lines.{entry};
 ghost use Rattle.desk.specs.Codes.{decode};
 ghost use Rattle.desk.specs.View.{view, Good};
-ghost use Rattle.desk.specs.Looks.{who-runs, of-slot, parent-of, place-at, sums, standing, taken};
+ghost use Rattle.desk.specs.Looks.{who-runs, of-slot, parent-of, place-at, sums, standing};
 use crate::Machine;
-use lines::SLOTS;
-use lines::mask;
+use lines::living_of;
 use rules::Line;
 use rules::Part;
+use rules::SLOTS;
 
 // Codes of lines: 1 to 32 are the semaphores', 33 to 80 the sub-devices', 81 the pseudo-clock's.
 const LAST_SEMAPHORE: u8 = 32;
@@ -58,20 +58,6 @@ fn number_of(a: &[u32; SLOTS], slot: usize) -> u32
     a[slot]
 }
 
-// The slots that are not free.
-fn taken(ids: &[u32; SLOTS]) -> [bool; SLOTS]
-    requires { ⌜ length (now ids) ≡ base-slots ⌝ }
-    ensures { λ r. ⌜ r ≡ taken (now (ids .entry)) ⌝ }
-{
-    let mut marks = [false; SLOTS];
-    let mut s = 0;
-    while s < SLOTS {
-        marks[s] = ids[s] != 0;
-        s += 1;
-    }
-    marks
-}
-
 // The line that a code stands for.
 fn line_of(code: u8) -> Line
     requires { ⌜ 1 ≤ code ⌝ }
@@ -104,8 +90,7 @@ impl Machine {
         requires { ⌜ Good self ⌝ }
         ensures { λ r. ⌜ r ≡ mask (living (view self)) ⌝ }
     {
-        let marks = taken(&self.ids);
-        mask(&marks)
+        self.taken
     }
 
     // The id of the process in a slot; 0 where nobody is there.
@@ -130,6 +115,17 @@ impl Machine {
         }
         let p = (up - 1) as usize;
         self.ids[p]
+    }
+
+    // Its customer; 0 where nobody is there.
+    pub fn customer(self, slot: usize) -> u8
+        requires { ⌜ Good self ⌝ }
+        ensures { λ r. ⌜ r ≡ of-slot (λ p. p .customer) slot (view self) ⌝ }
+    {
+        if Machine::SLOTS <= slot {
+            return 0;
+        }
+        self.customers[slot]
     }
 
     // Its priority, "kept, not used for order"; 0 where nobody is there.
@@ -190,6 +186,28 @@ impl Machine {
             return 0;
         }
         self.sems[number]
+    }
+
+    // A customer's ceiling; 0 where there is no such customer.
+    pub fn ceiling(self, customer: usize) -> u16
+        requires { ⌜ Good self ⌝ }
+        ensures { λ r. ⌜ r ≡ ceiling customer (view self) ⌝ }
+    {
+        if Machine::CUSTOMERS <= customer {
+            return 0;
+        }
+        self.ceilings[customer]
+    }
+
+    // A customer's living, running, ready and waiting ones all counted; 0 where there is no such customer.
+    pub fn living(self, customer: usize) -> usize
+        requires { ⌜ Good self ⌝ }
+        ensures { λ r. ⌜ r ≡ living-of customer (view self) ⌝ }
+    {
+        if Machine::CUSTOMERS <= customer {
+            return 0;
+        }
+        living_of(&self.ids, &self.customers, customer as u8)
     }
 
     // The sum of the accepted gaps, idle time and ended time.

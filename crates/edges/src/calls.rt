@@ -7,7 +7,7 @@ fn create() {
 start 1000
 kernel 1100 -1 0 0 0
 kernel 1200 -1 5 1 0
-kernel 1300 -1 4294967295 4294967295 0
+kernel 1300 -1 4294967295 255 0
 kernel 1400 -10
 kernel 1500 -10
 kernel 1600 -10

@@ -10,19 +10,19 @@ start 1000
 
 # 20 at the first field: one byte of its head
 start 1000
-cut 134
+drop 152
 
 # 20 at the first field: two bytes of its head
 start 1000
-cut 133
+drop 151
 
 # 20 at the first field: a head and no value
 start 1000
-cut 132
+drop 150
 
 # 20 at the first field: a value one byte short
 start 1000
-cut 1
+drop 1
 
 # 21 at the first field: tag 0
 start 1000
@@ -43,15 +43,15 @@ byte 0 255
 // 22, 23 and 24 at the first field
 fn first_refused() {
     play::play(
-        b"# 22 at the first field: length 131
+        b"# 22 at the first field: length 149
 start 1000
-byte 1 131
+byte 1 149
 
-# 22 at the first field: length 133
+# 22 at the first field: length 151
 start 1000
-byte 1 133
+byte 1 151
 
-# 22 at the first field: length 132 + 256
+# 22 at the first field: length 150 + 256
 start 1000
 byte 2 1
 
@@ -79,6 +79,71 @@ kernel 1100 -6
     );
 }
 
+// "two more bytes each, after the values, length 150"
+fn first_layout() {
+    play::play(
+        b"# 22 at the first field: a start of length 132, without ceilings
+start 1000
+byte 1 132
+drop 18
+kernel 1100 -6
+
+# 22 at the first field: length 132, though the ceilings are there
+start 1000
+byte 1 132
+kernel 1100 -6
+
+# 20 at the first field: no ceilings
+start 1000
+drop 18
+
+# 20 at the first field: eight ceilings
+start 1000
+drop 2
+
+",
+    );
+}
+
+// "ceiling 0 is at least 1"; "they may not sum above 20": the plain sum
+fn first_ceilings() {
+    play::play(
+        b"# 27: ceiling 0 is 0
+start 1000
+ceilings 0 20
+kernel 1100 -6
+
+# 27: the ceilings sum to 21
+start 1000
+ceilings 1 0 0 0 0 0 0 0 20
+kernel 1100 -6
+
+# 27: ceiling 8 is 256
+start 1000
+ceilings 1 0 0 0 0 0 0 0 256
+
+# 27: a sum that would wrap to 1 at 16 bits
+start 1000
+ceilings 1 65535 1
+
+# 27: a sum that would wrap to 20
+start 1000
+ceilings 65535 65535 22
+
+# no 27: the least ceilings
+start 1000
+ceilings 1
+kernel 1100 -6
+
+# no 27: a sum of 20
+start 1000
+ceilings 1 0 0 0 0 0 0 0 19
+kernel 1100 -6
+
+",
+    );
+}
+
 // 20 at a later field
 fn later_cut() {
     play::play(
@@ -86,34 +151,34 @@ fn later_cut() {
 start 1000
 kernel 1100 -6
 interrupt 1200 2 0 0
-cut 9
+drop 9
 
 # 20 at the last field: two bytes of its head
 start 1000
 kernel 1100 -6
 interrupt 1200 2 0 0
-cut 8
+drop 8
 
 # 20 at the last field: a head and no value
 start 1000
 kernel 1100 -6
-cut 21
+drop 21
 
 # 20 at the last field: a call one byte short
 start 1000
 kernel 1100 -6
-cut 1
+drop 1
 
 # 20 at the last field: an interrupt one byte short
 start 1000
 interrupt 1100 2 0 0
 interrupt 1200 2 0 0
-cut 1
+drop 1
 
 # 20 at the last field: an exception one byte short
 start 1000
 exception 1100 24
-cut 1
+drop 1
 
 ",
     );
@@ -225,14 +290,14 @@ fn order_of_heads() {
 start 1000
 kernel 1100 -6
 byte 0 9
-cut 22
+drop 22
 
 # order: an unknown tag is 21, whatever its length
 start 1000
 kernel 1100 -6
 byte 0 9
 byte 1 99
-cut 21
+drop 21
 
 # order: a wrong length is 22, though the value is cut
 start 1000
@@ -252,7 +317,7 @@ fn order_of_values() {
     play::play(
         b"# order: a first field that is a cut event is 20
 kernel 1000 -6
-cut 1
+drop 1
 
 # order: mode 2 in a first field is 23
 kernel 1000 -6
@@ -262,7 +327,7 @@ byte 7 2
 start 1000
 kernel 1100 -6
 byte 7 2
-cut 1
+drop 1
 
 ",
     );
@@ -273,7 +338,7 @@ fn order_of_starts() {
     play::play(
         b"# order: a start too large and cut is 20
 start 1000 0 4294967295
-cut 1
+drop 1
 
 # order: a later start too large is 23
 start 1000
@@ -282,12 +347,12 @@ start 1000 0 4294967295
 # order: a later start cut is 20
 start 1000
 start 1000
-cut 1
+drop 1
 
 # order: a later start of a wrong length is 22
 start 1000
 start 1000
-byte 1 133
+byte 1 151
 
 # reading goes on after halt
 start 1000
@@ -302,6 +367,37 @@ interrupt 1100 0 0 0
 exception 1200 8
 exception 1300 24
 byte 0 7
+
+",
+    );
+}
+
+// "else refusal 27 after 24"
+fn order_of_ceilings() {
+    play::play(
+        b"# order: a value too large and ceiling 0 at 0: 24
+start 1000 31 2147483648
+ceilings 0
+
+# order: a value too large and a sum of 21: 24
+start 1000 0 4294967295
+ceilings 21
+
+# order: bad ceilings in a cut start: 20
+start 1000
+ceilings 0 21
+drop 1
+
+# order: bad ceilings in a start of a wrong length: 22
+start 1000
+ceilings 0 21
+byte 1 149
+
+# order: bad ceilings in a later start: 23
+start 1000
+kernel 1100 -6
+start 1200
+ceilings 0 21
 
 ",
     );
@@ -330,6 +426,8 @@ fill 65537
 pub(crate) fn all() {
     first_cut_or_unknown();
     first_refused();
+    first_layout();
+    first_ceilings();
     later_cut();
     later_unknown();
     later_length();
@@ -338,5 +436,6 @@ pub(crate) fn all() {
     order_of_heads();
     order_of_values();
     order_of_starts();
+    order_of_ceilings();
     sizes();
 }

@@ -1,5 +1,6 @@
 // Every edge of the rules, played: what it writes is held to `stdout`, which was written by hand from the rules.
 mod calls;
+mod ceilings;
 mod fields;
 mod interrupts;
 mod refusals;
@@ -9,6 +10,7 @@ fn main() {
     tried::all();
     refusals::all();
     calls::all();
+    ceilings::all();
     interrupts::all();
     fields::all();
 }

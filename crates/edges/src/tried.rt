@@ -19,7 +19,7 @@ kernel 2200 -2 0
     );
 }
 
-// "Create with 19 alive, with 20 (−1), with 20 then a childless one killed"
+// "Create with 19 alive, with 20 (−1), with 20 then a childless one killed", where customer 0 has all 20 places
 fn creates() {
     play::play(
         b"# create with 19 alive

@@ -1,18 +1,20 @@
 -- What events and answers tell, worked out by computing: the whole example of document 01 ("id 1 ran 900, id 2 ran 300, idle 0; the gaps
--- total 1,200"), and stories in which somebody dies of a trap, a waiter is killed, a family of three generations ends and events are refused.
+-- total 1,200"), and stories in which somebody dies of a trap, a waiter is killed, a family of three generations ends, events are refused, and
+-- customers share the slots.
 use mathlib.Core.Path.{_≡_, refl}
 use mathlib.Core.List.{List, [], _∷_, _++_, map}
 use Prim.Native.Nat.{ℕ}
 use lib.ListN.{replicate}
 use Rattle.rules.specs.declared.Event.{Event}
 use Rattle.rules.specs.declared.Event.the-variants.{Interrupt, Exception}
-use Rattle.rules.specs.Words.{if_then_else_, those}
-use Rattle.rules.specs.Machine.{Machine, living, charge}
+use Rattle.rules.specs.Words.{if_then_else_, those, many}
+use Rattle.rules.specs.Machine.{Machine, living, living-of, charge}
 use Rattle.rules.specs.Answers.{mask}
-use Rattle.rules.specs.Rules.{clock, start, answers, step, rule-book}
+use Rattle.rules.specs.Rules.{clock, start, answers, step, run, rule-book}
 use Rattle.rules.specs.Examples.{call}
-use Rattle.ledger.specs.History.{slots-in, Past, beginning, onward, accepted, idled, accepted-gap, v-carried-out, p-got-through, tally, tally-past}
+use Rattle.ledger.specs.History.{slots-in, Past, customer-by, beginning, onward, past, accepted, idled, accepted-gap, v-carried-out, p-got-through, tally, tally-past}
 use Rattle.ledger.specs.Ids.{ids-issued, ids-ended}
+use Rattle.ledger.specs.Customers.{of-customer}
 use Rattle.ledger.specs.Times.{ran-for}
 use Rattle.ledger.specs.Kills.{target, doomed}
 use Rattle.ledger.specs.Moves.{move, queue}
@@ -62,7 +64,7 @@ turns-of h m (e ∷ es) = turn h m e ∷ turns-of (onward h e (step m e .answer)
 
 found : Story → List Turn × Told
 found s =
-    let m = start 20 (s .now) (s .sem ∷ replicate 31 0) in
+    let m = start 20 (s .now) (s .sem ∷ replicate 31 0) (20 ∷ replicate 8 0) in
     let es = s .events in
     let rs = answers m es in
     let h = beginning (s .now) in (
@@ -209,3 +211,39 @@ stories =
 every-story : map found stories ≡ map expected stories
 unfolding rule-book slots-in turn turns-of found expected stories
 every-story = refl
+
+-- ── Whose each one is ──
+
+-- id 1, of customer 0, names customers 1 and 2, and 2 again in vain; a child of id 2 is customer 1's, whatever it names; id 3 is killed, and its
+-- slot goes to another of customer 2
+crowd : List Event
+crowd =
+    call 1 1 0 256 0
+    ∷ call 2 1 0 512 0
+    ∷ call 3 1 0 512 0
+    ∷ call 4 10 0 0 0
+    ∷ call 5 1 0 512 0
+    ∷ call 6 10 0 0 0
+    ∷ call 7 10 0 0 0
+    ∷ call 8 2 3 0 0
+    ∷ call 9 1 0 0 0
+    ∷ call 10 10 0 0 0
+    ∷ call 11 10 0 0 0
+    ∷ call 12 1 0 512 0
+    ∷ []
+
+-- the customers of the ids issued, in order; of customers 0, 1 and 2, how many have ended and how many are alive
+whose : List ℕ × List ℕ × List ℕ
+whose =
+    let m = start 20 0 (replicate 32 0) (2 ∷ 2 ∷ 1 ∷ replicate 6 0) in
+    let rs = answers m crowd in
+    let h = beginning 0 in
+    let bs = past h crowd rs .births in (
+      map (λ n. customer-by n bs) (ids-issued h crowd rs),
+      map (λ c. many (of-customer c bs) (ids-ended h crowd rs)) (0 ∷ 1 ∷ 2 ∷ []),
+      map (λ c. living-of c (run m crowd)) (0 ∷ 1 ∷ 2 ∷ []),
+    )
+
+each-customer : whose ≡ (0 ∷ 1 ∷ 2 ∷ 1 ∷ 2 ∷ [], 0 ∷ 0 ∷ 1 ∷ [], 1 ∷ 2 ∷ 1 ∷ [])
+unfolding rule-book slots-in whose crowd
+each-customer = refl

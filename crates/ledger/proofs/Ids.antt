@@ -121,7 +121,7 @@ module _ (f : ℕ → ℕ) (h : Past) (m : Machine) (e : Event) (s : Settled m) 
 -- ── Any events ──
 
 pub same-slots : (m : Machine) (e : Event) → Single (m .running) → step m e .after .slots ≡ m .slots
-same-slots m e one = sized (m .slots) (length (m .sems)) m e one (refl, refl) .0
+same-slots m e one = sized (m .slots) (length (m .sems)) (m .ceilings) m e one (refl, refl, refl) .0
 
 next-told : (h : Past) (m : Machine) (e : Event) → Settled m → newborn-ids (step m e .answer) ≡ given (step m e .answer .newborn) (m .next)
 next-told h m e s = given-told m (step m e .answer .newborn) (step m e .answer .result) (newborn-told m e s)

@@ -10,9 +10,9 @@ use Rattle.rules.specs.declared.Mode.the-variants.{User, Kernel}
 use Rattle.rules.specs.declared.Event.{Event}
 use Rattle.rules.specs.declared.Event.the-variants.{Call, Interrupt, Exception}
 use Rattle.rules.specs.Words.{if_then_else_, first, those, among}
-use Rattle.rules.specs.Cases.{if-cases, Single, All, All-append, All-under, All-both, All-each, getD-cases}
+use Rattle.rules.specs.Cases.{if-cases, first-cases, Single, All, All-append, All-under, All-both, All-each, getD-cases}
 use Rattle.rules.specs.Lines.{those-those}
-use Rattle.rules.specs.Machine.{Process, Waiter, Machine, living, at, line, family, family-of, charge}
+use Rattle.rules.specs.Machine.{Process, Waiter, Machine, living, at, line, family, family-of, child-of, charge}
 use Rattle.rules.specs.Living.{process, those-over, sum-charged-same, all-running, all-ready, all-waiting, each-charged}
 use Rattle.rules.specs.Answers.{Outcome, mask}
 use Rattle.rules.specs.Rules
@@ -80,7 +80,7 @@ out-quiet : (e : Event) (m : Machine) → Quiet (carried-out e m)
 out-quiet (Call now mode (pos n) a1 a2 a3) m = tt
 out-quiet (Call now mode (negsuc n) a1 a2 a3) m =
     getD-cases Quiet (call-moves a1 a2 a3 m) (
-      if-cases Quiet (Rules.full m) (λ _. tt) (λ _. tt),
+      first-cases Quiet (m .running) (λ _. tt) (λ p _ _. if-cases Quiet (Rules.denied (child-of (p .customer) a2) m) (λ _. tt) (λ _. tt)),
       (tt, (if-cases Quiet (eqb (Rules.value a1 m) 0) (λ _. tt) (λ _. tt), (tt, (tt, (tt, (tt, (tt, (tt, (tt, tt))))))))),
     ) tt n
 out-quiet (Interrupt now n x y) m = if-cases Quiet (eqb n 1) (λ _. tt) (λ _. if-cases Quiet (eqb n 2) (λ _. tt) (λ _. tt))

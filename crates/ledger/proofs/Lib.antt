@@ -9,11 +9,13 @@ pub mod Masks
 pub mod Births
 pub mod Newborns
 pub mod Ids
+pub mod Customers
 pub mod Semaphores
 pub mod Times
 pub mod Shares
 pub mod Moves
 pub mod Lines
+pub mod Each
 pub mod Ahead
 pub mod Spared
 pub mod Kills

@@ -7,7 +7,7 @@ use native.Mathlib.Nat.{zero-add}
 use native.Mathlib.Omega.{arith}
 use lib.Dec.{eqb, leb, ltb}
 use lib.IntN.{ℤ, pos, negsuc}
-use lib.ListN.{getD}
+use lib.ListN.{length, getD}
 use borrow.Author.Tests.{eqb-true, eq-eqb, lt-ltb, ltb-true, ltb-false, lt-leb, le-leb}
 use Rattle.rules.specs.declared.Mode.{Mode}
 use Rattle.rules.specs.declared.Mode.the-variants.{User, Kernel}
@@ -24,7 +24,7 @@ use Rattle.rules.specs.Words.{if_then_else_, first, those, any, front, rest, wi
 use Rattle.rules.specs.Numbers.{top, sub-devices}
 use Rattle.rules.specs.Cases.{if-cases, first-cases, Single, single-cases, getD-past}
 use Rattle.rules.specs.Lines.{those-append}
-use Rattle.rules.specs.Machine.{Process, Waiter, Machine, with-sem, living, nucleus-waits, at, line, back, block, dispatch, wake, wake-all, named, family, family-of, kill, lowest-free, newborn, birth, longer, gap, charge}
+use Rattle.rules.specs.Machine.{Process, Waiter, Machine, with-sem, living, living-of, ceiling, nucleus-waits, at, line, back, block, dispatch, wake, wake-all, named, family, family-of, kill, lowest-free, child-of, newborn, birth, longer, gap, charge}
 use Rattle.rules.specs.Living.{sum-charged-same}
 use Rattle.rules.specs.Answers.{Outcome, plain, mask, giving, bearing, ending, waking, naming}
 use Rattle.rules.specs.Rules
@@ -32,9 +32,9 @@ use Rattle.rules.specs.Rules.{Service, act, step}
 use Rattle.rules.specs.Walk.{charge-single, kill-none}
 use Rattle.rules.specs.Laws.{accepts, passed}
 use Rattle.ledger.specs.Places.{alive}
-use Rattle.ledger.proofs.Lists.{no-one, everyone, length-sum, any-many, those-alike, nobody-passes, somebody-passes}
+use Rattle.ledger.proofs.Lists.{no-one, everyone, any-many, those-alike, nobody-passes, somebody-passes}
 use Rattle.ledger.specs.Kills.{passed-up, terminates, target-by, target}
-use Rattle.ledger.specs.Moves.{Move, none, steps-back, joins, first-wakes, all-wake, is-born, ends, call-moves, carried-out, move, moved, woken, ended, Moved}
+use Rattle.ledger.specs.Moves.{Move, none, steps-back, joins, first-wakes, all-wake, is-born, ends, creates, call-moves, carried-out, move, moved, woken, ended, Moved}
 
 -- ── Whoever runs goes on, or the first in the ready line runs: from the machine k, with the answer so far x ──
 
@@ -146,7 +146,9 @@ Serves n s = (now : ℕ) (p : Process) (a1 a2 a3 : ℕ) (m : Machine) → m .run
 
 create : Serves 0 Rules.create
 unfolding Rules.create Rules.carry-on birth
-create now p a1 a2 a3 m r = go (Rules.full m)
+create now p a1 a2 a3 m r =
+    carried (Call now Kernel (negsuc 0) a1 a2 a3) m p _ (if Rules.denied (child-of (p .customer) a2) m then none else is-born a2 a3) refl refl
+    (ap (λ (ps : List Process). first ps none (λ q. if Rules.denied (child-of (q .customer) a2) m then none else is-born a2 a3)) r) (go (Rules.denied (child-of (p .customer) a2) m))
   where
     x : Answer
     x = giving (pos (m .next)) (bearing (lowest-free m) plain)
@@ -321,11 +323,21 @@ module _ (now : ℕ) (m : Machine) where
       ∙ ap (leb 1) (sum-charged-same (λ p. count (eqb n (p .id))) (λ g p. refl) now m)
       ∙ sym (any-many (λ p. eqb n (p .id)) (living m))
 
-  full-charged : Rules.full (charge now m) ≡ Rules.full m
-  unfolding Rules.full charge
-  full-charged =
-      ap (λ (n : ℕ). leb (m .slots) n || ltb top (m .next))
-      (length-sum (living (charge now m)) ∙ sum-charged-same (λ p. 1) (λ g p. refl) now m ∙ sym (length-sum (living m)))
+  pub living-charged : (c : ℕ) → living-of c (charge now m) ≡ living-of c m
+  living-charged c = sum-charged-same (λ p. count (eqb c (p .customer))) (λ g p. refl) now m
+
+  pub denied-charged : (c : ℕ) → Rules.denied c (charge now m) ≡ Rules.denied c m
+  unfolding Rules.denied charge
+  denied-charged c = ap (λ (n : ℕ). leb (ceiling c m) n || leb (length (m .ceilings)) c || ltb top (m .next)) (living-charged c)
+
+  creates-charged : (a2 a3 : ℕ) → creates a2 a3 (charge now m) ≡ creates a2 a3 m
+  unfolding charge
+  creates-charged a2 a3 = go (m .running)
+    where
+      go : (ps : List Process) → first (map (longer (gap now m)) ps) none (λ p. if Rules.denied (child-of (p .customer) a2) (charge now m) then none else is-born a2 a3)
+          ≡ first ps none (λ p. if Rules.denied (child-of (p .customer) a2) m then none else is-born a2 a3)
+      go [] = refl
+      go (p ∷ ps) = rw (denied-charged (child-of (p .customer) a2)) refl
 
   up-charged : (e : Event) → passed-up e (charge now m) ≡ passed-up e m
   unfolding charge
@@ -337,7 +349,7 @@ module _ (now : ℕ) (m : Machine) where
 
   calls-charged : (a1 a2 a3 : ℕ) → call-moves a1 a2 a3 (charge now m) ≡ call-moves a1 a2 a3 m
   unfolding charge
-  calls-charged a1 a2 a3 = ap (λ (v : Move). v ∷ rest (call-moves a1 a2 a3 m)) (ap (λ (b : Bool). if b then none else is-born a2 a3) full-charged)
+  calls-charged a1 a2 a3 = ap (λ (v : Move). v ∷ rest (call-moves a1 a2 a3 m)) (creates-charged a2 a3)
 
   out-charged : (e : Event) → carried-out e (charge now m) ≡ carried-out e m
   unfolding charge

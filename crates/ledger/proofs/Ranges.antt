@@ -1,7 +1,7 @@
 -- Why everything kept and answered is in range where the words and bytes of the events are.
 use mathlib.Core.Path.{_≡_, refl, sym, subst}
-use mathlib.Core.Bool.{Bool, true, false, not, _&&_, _||_}
-use mathlib.Core.List.{List, [], _∷_, _++_, map}
+use mathlib.Core.Bool.{Bool, true, false, _&&_, _||_}
+use mathlib.Core.List.{List, [], _∷_, map}
 use Prim.Native.Nat.{ℕ, zero, suc, _+_, _-_, _*_, _/_, _%_, _^_, _≤_, _<_}
 use native.Mathlib.Nat.{pow-suc}
 use native.Mathlib.Omega.{arith}
@@ -21,12 +21,12 @@ use Rattle.rules.specs.declared.Result.{Result}
 use Rattle.rules.specs.declared.Part.{Part}
 use Rattle.rules.specs.declared.Part.the-variants.{Absent, Number}
 use Rattle.rules.specs.declared.Answer.{Answer}
-use Rattle.rules.specs.Words.{if_then_else_, first, those, front, sum, count, many}
+use Rattle.rules.specs.Words.{if_then_else_, first, those, sum, count, many}
 use Rattle.rules.specs.Numbers.{time-limit, sub-devices}
-use Rattle.rules.specs.Cases.{if-cases, first-cases, All, All-over, All-under, All-append, All-those, All-front, All-rest, All-without, getD-cases}
+use Rattle.rules.specs.Cases.{if-cases, first-cases, All, All-over, getD-cases}
 use Rattle.rules.specs.Sums.{sum-over, sum-front}
-use Rattle.rules.specs.Machine.{Process, Waiter, Machine, living, at, line, nucleus-waits, named, family, longer, newborn, gap, charge, fresh}
-use Rattle.rules.specs.Living.{process, living-sum, sum-killed, each-charged, all-living, all-running, all-ready, all-waiting}
+use Rattle.rules.specs.Machine.{Process, Machine, living, at, line, nucleus-waits, named, family, longer, child-of, newborn, gap, charge, fresh}
+use Rattle.rules.specs.Living.{living-sum, sum-killed, each-charged, all-running}
 use Rattle.rules.specs.Answers.{Outcome, plain, mask, doing, giving}
 use Rattle.rules.specs.Rules
 use Rattle.rules.specs.Rules.{Service, step, run, answers, lowest-bit, sub-device, bad-line}
@@ -34,11 +34,12 @@ use Rattle.rules.specs.Laws.{accepts, passed}
 use Rattle.rules.specs.Sound.{or-left, or-right, issued, Sound, in-slot, seated, sound-charged, named-after}
 use Rattle.rules.specs.Walk.{charge-single}
 use Rattle.rules.specs.Tables.{Tables, keeps, sound, short}
+use Rattle.ledger.specs.History.{a2-of}
 use Rattle.ledger.specs.Ids.{Newborn-told}
-use Rattle.ledger.specs.Kills.{passed-up, target}
-use Rattle.ledger.specs.Moves.{Move, none, steps-back, joins, first-wakes, all-wake, is-born, ends, call-moves, carried-out, move, moved, woken, ended, queue, Moved}
+use Rattle.ledger.specs.Moves.{Move, none, steps-back, joins, first-wakes, all-wake, is-born, ends, move, woken, ended, Moved}
 use Rattle.ledger.specs.Ranges.{word, byte, long, Well-formed, Ranged, Fits-result, Below, Fits}
-use Rattle.ledger.proofs.Lines.{line-all, line-few}
+use Rattle.ledger.proofs.Lines.{line-few}
+use Rattle.ledger.proofs.Each.{a3-of, moved-each}
 use Rattle.ledger.proofs.Verdicts.{by-verdict}
 use Rattle.ledger.proofs.Births.{answered}
 use Rattle.ledger.proofs.Newborns.{newborn-told}
@@ -160,7 +161,7 @@ giving-neat n x l h = record { result = l; device = h .device }
 create : Says-neat Rules.create
 unfolding Rules.create
 create p a1 a2 a3 m c =
-    if-cases Ends-neat (Rules.full m) (λ _. carry-neat p _ m (record { result = omega arith; device = tt }))
+    if-cases Ends-neat (Rules.denied (child-of (p .customer) a2) m) (λ _. carry-neat p _ m (record { result = omega arith; device = tt }))
     (λ _. carry-neat p _ _ (record { result = c .next; device = tt }))
 
 terminate : Says-neat Rules.terminate
@@ -223,7 +224,7 @@ interrupt now n x y m ok fx fy =
 
 -- ── Who calls ──
 
-module _ (slots sems : ℕ) (m : Machine) (e : Event) (t : Tables slots sems m) (w : Ranged m) (ok : Rules.refusal m e ≡ 0) where
+module _ (slots sems customers : ℕ) (m : Machine) (e : Event) (t : Tables slots sems customers m) (w : Ranged m) (ok : Rules.refusal m e ≡ 0) where
   abbrev g : ℕ
   g = gap (Rules.clock e) m
 
@@ -242,7 +243,7 @@ module _ (slots sems : ℕ) (m : Machine) (e : Event) (t : Tables slots sems m) 
   unfolding charge
   callers =
       All-over (λ p. Caller p m₁) (longer g) (m .running)
-      (go (m .running) (all-running _ m (short slots sems m t)) (all-running _ m (w .words)) (all-running _ m (issued m (sound slots sems m t))) (all-running _ m (t .older)))
+      (go (m .running) (all-running _ m (short slots sems customers m t)) (all-running _ m (w .words)) (all-running _ m (issued m (sound slots sems customers m t))) (all-running _ m (t .older)))
     where
       go : (ps : List Process) → All (λ p. p .time ≤ m .total) ps → All (λ p. (p .priority < word) × (p .handle < word)) ps → All (λ p. p .id < m .next) ps
           → All (λ p. (1 ≤ p .id) × All (λ a. a < p .id) (p .ancestors)) ps → All (λ p. Caller (longer g p) m₁) ps
@@ -297,78 +298,12 @@ Words : Process → Type 0
 Words p = (p .priority < word) × (p .handle < word)
 
 -- a newborn's priority and handle are words of the event
-abbrev Small : Move → Type 0
-Small none = Unit {0}
-Small steps-back = Unit {0}
-Small (joins l) = Unit {0}
-Small (first-wakes l) = Unit {0}
-Small (all-wake l) = Unit {0}
-Small (is-born a2 a3) = (a2 < word) × (a3 < word)
-Small (ends n) = Unit {0}
-
-out-small : (e : Event) (m : Machine) → Well-formed e → Small (carried-out e m)
-out-small (Call now mode (pos n) a1 a2 a3) m f = tt
-out-small (Call now mode (negsuc n) a1 a2 a3) m f =
-    getD-cases Small (call-moves a1 a2 a3 m) (
-      if-cases Small (Rules.full m) (λ _. tt) (λ _. (f .2, f .3)),
-      (tt, (if-cases Small (eqb (Rules.value a1 m) 0) (λ _. tt) (λ _. tt), (tt, (tt, (tt, (tt, (tt, (tt, (tt, tt))))))))),
-    ) tt n
-out-small (Interrupt now n x y) m f = if-cases Small (eqb n 1) (λ _. tt) (λ _. if-cases Small (eqb n 2) (λ _. tt) (λ _. tt))
-out-small (Exception now code) m f = tt
-
-move-small : (e : Event) (m : Machine) → Well-formed e → Small (move e m)
-move-small e m f = first-cases Small (target e m) (λ _. if-cases Small (passed-up e m) (λ _. tt) (λ _. out-small e m f)) (λ n ns _. tt)
-
-newborns : (a2 a3 : ℕ) (m : Machine) → (a2 < word) × (a3 < word) → (ps : List Process) → All Words (map (λ p. newborn p a2 a3 m) ps)
+newborn-words : (e : Event) (k : Machine) → Well-formed e → (ps : List Process) → All Words (map (λ p. newborn p (a2-of e) (a3-of e) k) ps)
 unfolding Words
-newborns a2 a3 m h [] = tt
-newborns a2 a3 m h (p ∷ ps) = (h, newborns a2 a3 m h ps)
-
--- what holds for each of the living and for a newborn holds for each in the lists after the move
-module _ (m : Machine) (h : All Words (living m)) where
-  runs : All Words (m .running)
-  runs = all-running Words m h
-
-  rdy : All Words (m .ready)
-  rdy = all-ready Words m h
-
-  wts : All (λ w. Words (w .process)) (m .waiting)
-  wts = All-under Words process (m .waiting) (all-waiting Words m h)
-
-  on-words : (v : Move) → All Words (moved v m .on)
-  on-words none = runs
-  on-words steps-back = tt
-  on-words (joins l) = tt
-  on-words (first-wakes l) = runs
-  on-words (all-wake l) = runs
-  on-words (is-born a2 a3) = runs
-  on-words (ends n) = tt
-
-  ready-words : (v : Move) → Small v → All Words (moved v m .ready)
-  ready-words none s = rdy
-  ready-words steps-back s = All-append Words (m .ready) (m .running) rdy runs
-  ready-words (joins l) s = rdy
-  ready-words (first-wakes l) s = All-append Words (m .ready) (front (line l m)) rdy (All-front Words (line l m) (line-all Words l m h))
-  ready-words (all-wake l) s = All-append Words (m .ready) (line l m) rdy (line-all Words l m h)
-  ready-words (is-born a2 a3) s = All-append Words (m .ready) (map (λ p. newborn p a2 a3 m) (m .running)) rdy (newborns a2 a3 m s (m .running))
-  ready-words (ends n) s = All-those Words (λ p. not (family n p)) (m .ready ++ m .running) (All-append Words (m .ready) (m .running) rdy runs)
-
-  waiting-words : (v : Move) → All (λ w. Words (w .process)) (moved v m .waiting)
-  waiting-words none = wts
-  waiting-words steps-back = wts
-  waiting-words (joins l) = All-append (λ w. Words (w .process)) (m .waiting) _ wts (All-over (λ w. Words (w .process)) (λ p. record { process = p; line = l }) (m .running) runs)
-  waiting-words (first-wakes l) = All-without (λ w. Words (w .process)) (at l) (m .waiting) wts
-  waiting-words (all-wake l) = All-those (λ w. Words (w .process)) (λ w. not (at l w)) (m .waiting) wts
-  waiting-words (is-born a2 a3) = wts
-  waiting-words (ends n) = All-those (λ w. Words (w .process)) (λ w. not (family n (w .process))) (m .waiting) wts
-
-  words-after : (v : Move) (o : Outcome) → Moved v m o → Small v → All Words (living (o .after))
-  words-after v o w s =
-      let q : All Words (queue v m) = All-append Words (moved v m .on) (moved v m .ready) (on-words v) (ready-words v s) in
-      all-living Words (o .after)
-      (subst (All Words) (sym (w .runs)) (All-front Words (queue v m) q))
-      (subst (All Words) (sym (w .ready)) (All-rest Words (queue v m) q))
-      (subst (λ (ws : List Waiter). All Words (map process ws)) (sym (w .waiting)) (All-over Words process (moved v m .waiting) (waiting-words v)))
+newborn-words e k f [] = tt
+newborn-words (Call now mode a0 a1 a2 a3) k f (p ∷ ps) = ((f .2, f .3), newborn-words (Call now mode a0 a1 a2 a3) k f ps)
+newborn-words (Interrupt now n x y) k f (p ∷ ps) = ((omega arith, omega arith), newborn-words (Interrupt now n x y) k f ps)
+newborn-words (Exception now code) k f (p ∷ ps) = ((omega arith, omega arith), newborn-words (Exception now code) k f ps)
 
 -- ── Every event ──
 
@@ -397,7 +332,7 @@ pub record In-range (slots : ℕ) (o : Outcome) : Type 0 where
   pub kept : Ranged (o .after)
   pub said : Fits slots (o .answer)
 
-module _ (slots sems : ℕ) (m : Machine) (e : Event) (t : Tables slots sems m) (w : Ranged m) (f : Well-formed e) where
+module _ (slots sems customers : ℕ) (m : Machine) (e : Event) (t : Tables slots sems customers m) (w : Ranged m) (f : Well-formed e) where
   accepted-range : Rules.refusal m e ≡ 0 → In-range slots (step m e)
   unfolding Rules.rows charge Words
   accepted-range ok =
@@ -406,17 +341,17 @@ module _ (slots sems : ℕ) (m : Machine) (e : Event) (t : Tables slots sems m) 
       let o = Rules.perform e k in
       let one = charge-single now m (t .one-runs) in
       let a = answered e k one in
-      let n = performs-neat e k f (passed m e ok .1 .0) (callers slots sems m e t w ok) in
+      let n = performs-neat e k f (passed m e ok .1 .0) (callers slots sems customers m e t w ok) in
       let v : Moved (move e m) k o = rw (accepts m e ok) at (moves-hold m e (t .one-runs) ok) in
-      let t′ : Tables slots sems (o .after) = rw (accepts m e ok) at (keeps slots sems m e t) in
-      let g = sound-charged now m (sound slots sems m t) in
+      let t′ : Tables slots sems customers (o .after) = rw (accepts m e ok) at (keeps slots sems customers m e t) in
+      let g = sound-charged now m (sound slots sems customers m t) in
       rw (accepts m e ok) record {
-        kept = record { last = subst (λ (i : ℕ). i < word) (sym (a .1)) (clock-within e f); words = words-after k (each-charged Words (λ g p h. h) now m (w .words)) (move e m) o v (move-small e m f) };
+        kept = record { last = subst (λ (i : ℕ). i < word) (sym (a .1)) (clock-within e f); words = moved-each Words m e o v (each-charged Words (λ g p h. h) now m (w .words)) (newborn-words e k f (k .running)) };
         said = record {
           refusal = omega (arith, a .0);
-          runner = subst (All (λ s. s < slots)) (named-after k e one .1) (All-over (λ s. s < slots) (λ p. p .slot) (o .after .running) (all-running (λ p. p .slot < slots) (o .after) (subst (λ (i : ℕ). All (λ p. p .slot < i) (living (o .after))) (t′ .slots-there) (seated (o .after) (sound slots sems (o .after) t′)))));
+          runner = subst (All (λ s. s < slots)) (named-after k e one .1) (All-over (λ s. s < slots) (λ p. p .slot) (o .after .running) (all-running (λ p. p .slot < slots) (o .after) (subst (λ (i : ℕ). All (λ p. p .slot < i) (living (o .after))) (t′ .slots-there) (seated (o .after) (sound slots sems customers (o .after) t′)))));
           result = n .result;
-          newborn = newborn-within slots (o .answer .newborn) (o .answer .result) m (t .slots-there) (rw (accepts m e ok) at (newborn-told m e (sound slots sems m t, t .one-runs)));
+          newborn = newborn-within slots (o .answer .newborn) (o .answer .result) m (t .slots-there) (rw (accepts m e ok) at (newborn-told m e (sound slots sems customers m t, t .one-runs)));
           device = n .device;
           woken = subst (λ (i : ℕ). i < 2 ^ slots) (sym (v .woken-mask)) (mask-of slots k (woken (move e m) k) g (t .slots-there) (λ f. woken-sum f (move e m) k));
           ended = subst (λ (i : ℕ). i < 2 ^ slots) (sym (v .ended-mask)) (mask-of slots k (ended (move e m) k) g (t .slots-there) (λ f. ended-sum f (move e m) k));
@@ -431,14 +366,14 @@ module _ (slots sems : ℕ) (m : Machine) (e : Event) (t : Tables slots sems m) 
   })
 
 -- any events: the machine after them, and each answer
-pub ranges-hold : (slots sems : ℕ) (es : List Event) (m : Machine) → Tables slots sems m → Ranged m → All Well-formed es → Ranged (run m es) × All (Fits slots) (answers m es)
+pub ranges-hold : (slots sems customers : ℕ) (es : List Event) (m : Machine) → Tables slots sems customers m → Ranged m → All Well-formed es → Ranged (run m es) × All (Fits slots) (answers m es)
 unfolding run answers
-ranges-hold slots sems [] m t w f = (w, tt)
-ranges-hold slots sems (e ∷ es) m t w f =
-    let i = in-range slots sems m e t w (f .0) in
-    let k = ranges-hold slots sems es (step m e .after) (keeps slots sems m e t) (i .kept) (f .1) in
+ranges-hold slots sems customers [] m t w f = (w, tt)
+ranges-hold slots sems customers (e ∷ es) m t w f =
+    let i = in-range slots sems customers m e t w (f .0) in
+    let k = ranges-hold slots sems customers es (step m e .after) (keeps slots sems customers m e t) (i .kept) (f .1) in
     (k .0, (i .said, k .1))
 
-pub fresh-ranged : (slots now : ℕ) (values : List ℕ) → now < word → Ranged (fresh slots now values)
+pub fresh-ranged : (slots now : ℕ) (values ceilings : List ℕ) → now < word → Ranged (fresh slots now values ceilings)
 unfolding fresh living
-fresh-ranged slots now values h = record { last = h; words = ((omega arith, omega arith), tt) }
+fresh-ranged slots now values ceilings h = record { last = h; words = ((omega arith, omega arith), tt) }

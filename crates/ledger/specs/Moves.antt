@@ -12,9 +12,9 @@ use Rattle.rules.specs.declared.Event.the-variants.{Call, Interrupt, Exception}
 use Rattle.rules.specs.declared.Line.{Line}
 use Rattle.rules.specs.declared.Line.the-variants.{Semaphore, Device, PseudoClock}
 use Rattle.rules.specs.Words.{if_then_else_, first, those, front, rest, without}
-use Rattle.rules.specs.Machine.{Process, Waiter, Machine, at, line, family, family-of, newborn}
+use Rattle.rules.specs.Machine.{Process, Waiter, Machine, at, line, family, family-of, child-of, newborn}
 use Rattle.rules.specs.Answers.{Outcome, mask}
-use Rattle.rules.specs.Rules.{full, value, sub-device}
+use Rattle.rules.specs.Rules.{denied, value, sub-device}
 use Rattle.ledger.specs.Kills.{passed-up, target}
 
 pub data Move : Type 0 where
@@ -35,10 +35,14 @@ pub data Move : Type 0 where
 
 -- ── Which event moves whom ──
 
+-- −1: a newborn, unless whoever runs is denied it
+abbrev pub creates : ℕ → ℕ → Machine → Move
+creates a2 a3 m = first (m .running) none λ p. if denied (child-of (p .customer) a2) m then none else is-born a2 a3
+
 -- the calls −1 to −10 that are carried out, in order (−2: see `target`)
 abbrev pub call-moves : ℕ → ℕ → ℕ → Machine → List Move
 call-moves a1 a2 a3 m =
-    (if full m then none else is-born a2 a3)
+    creates a2 a3 m
     ∷ none
     ∷ (if eqb (value a1 m) 0 then joins (Semaphore a1) else none)
     ∷ first-wakes (Semaphore a1)

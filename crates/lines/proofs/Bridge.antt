@@ -229,17 +229,6 @@ any-none t (x ∷ l) e = go (t x) e (any-none t l)
     go true e h = let z : _≡_ {A = ℕ} 0 1 = cc in absurd (omega arith)
     go false e h = h e
 
--- ---- someone passes: what is left says the same as the whole
-module _ (p : ℕ → Bool) (l : List ℕ) (i : ℕ) where
-  pub any-hit : i < length l → p (getD l i 0) ≡ true → any p (drop i l) ≡ true
-  any-hit h e = rw (drop-cons l i 0, e)
-
-  pub any-miss : i < length l → p (getD l i 0) ≡ false → any p (drop i l) ≡ any p (drop (i + 1) l)
-  any-miss h e = rw (drop-cons l i 0, e, add-one)
-
-  pub any-end : length l ≤ i → any p (drop i l) ≡ false
-  any-end h = rw (drop-of-length-le l h)
-
 -- ---- some join a line
 drop-zeros : (j n : ℕ) → drop j (replicate {A = ℕ} n 0) ≡ replicate (n - j) 0
 drop-zeros zero n = rw sub-zero

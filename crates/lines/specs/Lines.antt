@@ -109,3 +109,7 @@ sparedOf k ds at = if leb k at then at else (if marked ds at then k else at)
 -- the taken slots as a mask, "bit n for slot n": the slots below k whose id is not zero
 unfoldable pub takenMask : ℕ → List ℕ → ℕ
 takenMask k ids = tally (λ s. if isZero (entry ids s) then 0 else 2 ^ s) k
+
+-- the taken slots below k whose customer is c: "the running, ready and waiting ones all counted"
+unfoldable pub membersOf : ℕ → List ℕ → List ℕ → ℕ → ℕ
+membersOf k ids customers c = tally (λ s. if isZero (entry ids s) then 0 else one c (entry customers s)) k

@@ -1,14 +1,12 @@
 // Lines of slots kept in arrays: the first n places are the line, the others are zero.
+use rules::SLOTS;
 ghost use mathlib.Core.Path.{_≡_};
 ghost use mathlib.Core.List.{List};
 ghost use Prim.Native.Nat.{ℕ, _+_, _^_, _<_, _≤_};
 ghost use lib.ListN.{length, set, take};
 ghost use Rattle.rules.specs.Words.{if_then_else_, those};
 ghost use Rattle.rules.specs.Numbers.{base-slots, time-limit};
-ghost use Rattle.lines.specs.Lines.{InSlots, removed, joined, cleared, kept, entry, marked, alive, inLine, aboveLine, isZero, isId, firstWhere, tally, struck, marksAt, sparedOf, takenMask};
-
-// "20 slots, 0 to 19."
-pub const SLOTS: usize = 20;
+ghost use Rattle.lines.specs.Lines.{InSlots, removed, joined, cleared, kept, entry, marked, alive, inLine, aboveLine, isZero, isId, firstWhere, tally, struck, marksAt, sparedOf, takenMask, membersOf};
 
 const POWERS: [u64; SLOTS] = [
     1,
@@ -258,6 +256,23 @@ pub fn mask(marks: &[bool; SLOTS]) -> u64
         s += 1;
     }
     sum
+}
+
+// How many of a customer are alive, by their slots: "the running, ready and waiting ones all counted".
+pub fn living_of<'a>(ids: &'a [u32; SLOTS], customers: &'a [u8; SLOTS], customer: u8) -> usize
+    ensures { λ r. ⌜ r ≡ membersOf base-slots (now (ids .entry)) (now (customers .entry)) customer ⌝ }
+{
+    let mut n = 0;
+    let mut s = 0;
+    while s < SLOTS {
+        if ids[s] != 0 {
+            if customers[s] == customer {
+                n += 1;
+            }
+        }
+        s += 1;
+    }
+    n
 }
 
 // The slot of an id.

@@ -52,7 +52,7 @@ expected =
     ∷ []
 
 machine : Machine
-machine = start 20 1000 (1 ∷ replicate 31 0)
+machine = start 20 1000 (1 ∷ replicate 31 0) (20 ∷ replicate 8 0)
 
 whole-example : answers machine events ≡ expected
 unfolding rule-book machine events expected

@@ -2,6 +2,7 @@
 -- To be believed, read in this order:
 pub mod Words
 pub mod Numbers
+pub mod Starts
 pub mod Machine
 pub mod Answers
 pub mod Rules

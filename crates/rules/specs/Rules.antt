@@ -15,11 +15,12 @@ use Rattle.rules.specs.declared.Cause.the-variants.{Tlb, General}
 use Rattle.rules.specs.declared.Action.{Action}
 use Rattle.rules.specs.declared.Action.the-variants.{CarryOn, Run, Wait, Halt, Panic, PassUp}
 use Rattle.rules.specs.declared.Answer.{Answer}
-use Rattle.rules.specs.Words.{if_then_else_, first, those, any}
-use Rattle.rules.specs.Numbers.{top, sub-devices, gap-limit, time-limit, over, clock-back, time-full, nobody-runs, no-such-line, no-such-code, value-too-large}
-use Rattle.rules.specs.Machine.{Process, Machine, Status, On, Halted, Panicked, living, with-sem, with-status}
+use Rattle.rules.specs.Words.{if_then_else_, first, those}
+use Rattle.rules.specs.Numbers.{top, sub-devices, gap-limit, time-limit, over, clock-back, time-full, nobody-runs, no-such-line, no-such-code}
+use Rattle.rules.specs.Starts.{too-large, not-allowed, start-refusal}
+use Rattle.rules.specs.Machine.{Process, Machine, Status, On, Halted, Panicked, living, living-of, ceiling, with-sem, with-status}
 use Rattle.rules.specs.Machine.{at, line, nucleus-waits, back, block, dispatch, wake, wake-all}
-use Rattle.rules.specs.Machine.{named, family, family-of, kill, lowest-free, birth, gap, charge, fresh}
+use Rattle.rules.specs.Machine.{named, family, family-of, kill, lowest-free, child-of, birth, gap, charge, fresh}
 use Rattle.rules.specs.Answers.{Outcome, plain, refusing, doing, giving, bearing, naming, mask, waking, ending}
 
 -- the event ends with an action, beside the answer so far
@@ -76,14 +77,14 @@ Service = Process → ℕ → ℕ → ℕ → Machine → Outcome
 abbrev pub trapped : Service
 trapped p a1 a2 a3 m = trap p m
 
--- "−1 exactly when 20 are alive or every id is issued"
-unfoldable pub full : Machine → Bool
-full m = leb (m .slots) (length (living m)) || ltb top (m .next)
+-- 02, (ii): "create now gives −1 exactly when the child's customer is at its ceiling, the named customer is above 8, or ids have run out"
+unfoldable pub denied : ℕ → Machine → Bool
+denied c m = leb (ceiling c m) (living-of c m) || leb (length (m .ceilings)) c || ltb top (m .next)
 
 -- −1: "result: its id, or −1 ..; caller carries on"
 unfoldable pub create : Service
 create p a1 a2 a3 m =
-    if full m then carry-on p (giving (negsuc 0) plain) m
+    if denied (child-of (p .customer) a2) m then carry-on p (giving (negsuc 0) plain) m
     else carry-on p (giving (pos (m .next)) (bearing (lowest-free m) plain)) (birth p a2 a3 m)
 
 -- −2: "a1 = 0 means the caller, otherwise an id; an id that names nobody alive gives −1 and ends nobody; if the caller ends, schedule";
@@ -265,23 +266,25 @@ run m (e ∷ es) = run (step m e .after) es
 
 -- ── A fresh machine ──
 
+-- the least ceilings allowed, of so many customers: 1, 0, .. , 0
+abbrev pub least-ceilings : ℕ → List ℕ
+least-ceilings zero = []
+least-ceilings (suc n) = 1 ∷ replicate n 0
+
 -- "the machine left when the start with the least numbers allowed ends its id 1 at once (call −2, clock unchanged)"
-unfoldable pub nothing-left : ℕ → ℕ → Machine
-nothing-left slots sems = step (fresh slots 0 (replicate sems 0)) (Call 0 Kernel (negsuc 1) 0 0 0) .after
+unfoldable pub nothing-left : ℕ → ℕ → ℕ → Machine
+nothing-left slots sems customers = step (fresh slots 0 (replicate sems 0) (least-ceilings customers)) (Call 0 Kernel (negsuc 1) 0 0 0) .after
 
--- "a starting value above the limit is refused with 24"
-unfoldable pub start-refusal : List ℕ → ℕ
-start-refusal values = if any (ltb top) values then value-too-large else 0
-
-unfoldable pub start : ℕ → ℕ → List ℕ → Machine
-start slots now values =
-    if any (ltb top) values then nothing-left slots (length values) else fresh slots now values
+-- "wherever a machine is refused, what stands beside the number" is that one
+unfoldable pub start : ℕ → ℕ → List ℕ → List ℕ → Machine
+start slots now values ceilings =
+    if eqb (start-refusal slots values ceilings) 0 then fresh slots now values ceilings else nothing-left slots (length values) (length ceilings)
 
 -- to unfold this is to unfold every rule, as a worked example does
 unfoldable pub rule-book : Unit {0}
 unfolding living at line nucleus-waits back block dispatch wake wake-all named family family-of kill lowest-free birth gap charge fresh
     mask nobody-ready schedule carry-on resume die pass-up-or-die trap tlb
-    full create terminate passeren verhogen do-io cpu-time wait-clock support identity yield services service
+    denied create terminate passeren verhogen do-io cpu-time wait-clock support identity yield services service
     sub-device tick device-done interrupt stopped bad-line bad-code needs-runner rows refusal refused
-    call exception step answers run nothing-left start-refusal start
+    call exception step answers run nothing-left too-large not-allowed start-refusal start
 rule-book = tt

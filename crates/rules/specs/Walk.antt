@@ -28,11 +28,11 @@ use Rattle.rules.specs.Lines.{many-some}
 use Rattle.rules.specs.Numbers.{sub-devices}
 use Rattle.rules.specs.Cases.{if-cases, first-cases, Single, single-cases, getD-cases, and-intro}
 use Rattle.rules.specs.Machine.{Process, Waiter, Machine, Status, Halted, Panicked, living, with-lines, with-sem, with-status, line, nucleus-waits}
-use Rattle.rules.specs.Machine.{back, block, dispatch, wake, wake-all, named, family, family-of, kill, lowest-free, birth, charge}
+use Rattle.rules.specs.Machine.{back, block, dispatch, wake, wake-all, named, family, family-of, kill, lowest-free, child-of, birth, charge}
 use Rattle.rules.specs.Living.{Same, same-back, same-block, same-dispatch, same-wake, same-wake-all}
 use Rattle.rules.specs.Rules
 use Rattle.rules.specs.Answers.{Outcome, plain, doing, giving, bearing, naming, waking, ending}
-use Rattle.rules.specs.Rules.{Service, full, exists, value, may-rise}
+use Rattle.rules.specs.Rules.{Service, denied, exists, value, may-rise}
 
 -- the running process may wait in this line
 abbrev pub may-wait : Line → Machine → Bool
@@ -55,7 +55,7 @@ pub record Walk (B : Machine → Type 0) (S : Answer → Machine → Type 0) (Q 
   -- the one change of an event
   pub blocks : (l : Line) (p : Process) (m : Machine) → may-wait l m ≡ true → m .running ≡ p ∷ [] → B m → S plain (block l m)
   pub kills : (n : ℕ) (p : Process) (m : Machine) → 1 ≤ many (named n) (living m) → m .running ≡ p ∷ [] → B m → S (ending (family-of n m) plain) (kill n m)
-  pub births : (a2 a3 : ℕ) (p : Process) (m : Machine) → full m ≡ false → m .running ≡ p ∷ [] → B m → S (giving (pos (m .next)) (bearing (lowest-free m) plain)) (birth p a2 a3 m)
+  pub births : (a2 a3 : ℕ) (p : Process) (m : Machine) → denied (child-of (p .customer) a2) m ≡ false → m .running ≡ p ∷ [] → B m → S (giving (pos (m .next)) (bearing (lowest-free m) plain)) (birth p a2 a3 m)
   pub wakes : (l : Line) (q : Process) (ys : List Process) (m : Machine) → line l m ≡ q ∷ ys → B m → S (waking (q ∷ []) plain) (wake l m)
   pub ticks : (m : Machine) → B m → S (waking (line PseudoClock m) plain) (wake-all PseudoClock m)
   -- only the answer changes
@@ -150,7 +150,7 @@ module _ (B : Machine → Type 0) (S : Answer → Machine → Type 0) (Q : Answe
   pub create : Serves Rules.create
   unfolding Rules.create Rules.carry-on
   create p a1 a2 a3 m r h =
-      if-cases Ends (full m) (λ _. w .carries _ p m r (w .gives _ plain m refl (w .begins m h)))
+      if-cases Ends (denied (child-of (p .customer) a2) m) (λ _. w .carries _ p m r (w .gives _ plain m refl (w .begins m h)))
       (λ e. w .carries _ p _ (rw (birth-same a2 a3 p m) r) (w .births a2 a3 p m e r h))
 
   pub terminate : Serves Rules.terminate
@@ -252,7 +252,7 @@ pub record Kept (B : Machine → Type 0) (S : Answer → Machine → Type 0) : T
   pub moves : (r q : List Process) (w : List Waiter) (x : Answer) (m : Machine) → Same (living m) (living (with-lines r q w m)) → S x m → S x (with-lines r q w m)
   pub stops : (s : Status) (x : Answer) (m : Machine) → S x m → S x (with-status s m)
   pub kills : (n : ℕ) (m : Machine) → B m → S (ending (family-of n m) plain) (kill n m)
-  pub births : (a2 a3 : ℕ) (p : Process) (m : Machine) → full m ≡ false → m .running ≡ p ∷ [] → B m → S (giving (pos (m .next)) (bearing (lowest-free m) plain)) (birth p a2 a3 m)
+  pub births : (a2 a3 : ℕ) (p : Process) (m : Machine) → denied (child-of (p .customer) a2) m ≡ false → m .running ≡ p ∷ [] → B m → S (giving (pos (m .next)) (bearing (lowest-free m) plain)) (birth p a2 a3 m)
 
 module _ (B : Machine → Type 0) (S : Answer → Machine → Type 0) (k : Kept B S) where
   pub kept : Walk B S S

@@ -5,6 +5,8 @@ use crate::count::{EVENTS, SEEDS};
 use crate::{generate, line, log};
 
 const ZERO: [u32; SEMAPHORES] = [0; SEMAPHORES];
+/// All places for customer 0.
+const ALL: [u16; CUSTOMERS] = [20, 0, 0, 0, 0, 0, 0, 0, 0];
 
 fn kernel(clock: u32, a0: i32, a1: u32) -> Event {
     create(clock, a0, a1, 0)
@@ -13,6 +15,12 @@ fn kernel(clock: u32, a0: i32, a1: u32) -> Event {
 /// A kernel call with a handle in a3.
 fn create(clock: u32, a0: i32, a1: u32, a3: u32) -> Event {
     Event { clock, kind: Kind::Call(Call { mode: Mode::Kernel, a0, a1, a2: 7, a3 }) }
+}
+
+/// A create whose a2 / 256 names a customer.
+fn names(customer: u32) -> Event {
+    let a2 = 256 * customer + 255;
+    Event { clock: 0, kind: Kind::Call(Call { mode: Mode::Kernel, a0: -1, a1: 0, a2, a3: 0 }) }
 }
 
 fn user(clock: u32, a0: i32) -> Event {
@@ -30,7 +38,11 @@ fn exception(clock: u32, code: u8) -> Event {
 fn fresh(number: usize, value: u32) -> Desk {
     let mut values = ZERO;
     values[number] = value;
-    Desk::fresh(0, values).unwrap()
+    Desk::fresh(0, values, ALL).unwrap()
+}
+
+fn with_ceilings(ceilings: [u16; CUSTOMERS]) -> Desk {
+    Desk::fresh(0, ZERO, ceilings).unwrap()
 }
 
 /// A fresh machine with some values and so many children of id 1, with handle 5, at clock 0.
@@ -67,7 +79,7 @@ fn refuses(desk: &Desk, event: Event, number: u8) {
 fn whole_example() {
     let mut values = ZERO;
     values[0] = 1;
-    let mut desk = Desk::fresh(1000, values).unwrap();
+    let mut desk = Desk::fresh(1000, values, ALL).unwrap();
     play(
         &mut desk,
         [
@@ -108,12 +120,74 @@ fn creates() {
 }
 
 #[test]
+fn ceilings() {
+    // Each customer to its own ceiling, whatever the others hold; the table's last place too.
+    let mut desk = with_ceilings([2, 1, 0, 0, 0, 0, 0, 0, 17]);
+    play(
+        &mut desk,
+        [
+            (names(1), "0 on 0 2 1 - 0 0"),
+            (names(1), "0 on 0 -1 - - 0 0"),
+            (names(2), "0 on 0 -1 - - 0 0"),
+            (names(0), "0 on 0 3 2 - 0 0"),
+            (names(0), "0 on 0 -1 - - 0 0"),
+        ],
+    );
+    for slot in 3..20 {
+        play(&mut desk, [(names(8), &format!("0 on 0 {} {slot} - 0 0", slot + 1))]);
+    }
+    play(&mut desk, [(names(8), "0 on 0 -1 - - 0 0")]);
+    // "the named customer is above 8", by all 24 bits of it
+    for above in [9, 255, 256, 257, 264, 1 << 16, u32::MAX / 256] {
+        let mut desk = with_ceilings([3, 3, 3, 3, 3, 1, 1, 1, 2]);
+        play(&mut desk, [(names(above), "0 on 0 -1 - - 0 0"), (names(8), "0 on 0 2 1 - 0 0")]);
+    }
+}
+
+#[test]
+fn children_of_customers() {
+    // "A child has its parent's customer": a2 of another than customer 0 is not looked at.
+    let mut desk = with_ceilings([2, 4, 3, 0, 0, 0, 0, 0, 0]);
+    play(
+        &mut desk,
+        [
+            (names(1), "0 on 0 2 1 - 0 0"),
+            (kernel(0, -7, 0), "0 run 1 - - - 0 0"),
+            (names(2), "0 on 1 3 2 - 0 0"),
+            (names(3), "0 on 1 4 3 - 0 0"),
+            (names(u32::MAX / 256), "0 on 1 5 4 - 0 0"),
+            (names(0), "0 on 1 -1 - - 0 0"),
+        ],
+    );
+    assert_eq!((desk.living_of(0), desk.living_of(1), desk.living_of(2)), (1, 4, 0));
+    // The running, the ready and the waiting count. A kill gives the places of its dead back, to
+    // their own customers.
+    play(
+        &mut desk,
+        [
+            (kernel(0, -3, 0), "0 run 2 - - - 0 0"),
+            (kernel(0, -5, 9), "0 run 3 - - 9 0 0"),
+            (interrupt(0, 2, 0, 0), "0 on 3 - - - 1 0"),
+            (names(0), "0 on 3 -1 - - 0 0"),
+            (kernel(0, -2, 3), "0 run 4 0 - - 0 4"),
+            (names(2), "0 on 4 6 2 - 0 0"),
+            (names(2), "0 on 4 -1 - - 0 0"),
+            (kernel(0, -10, 0), "0 run 0 - - - 0 0"),
+            (names(2), "0 on 0 7 5 - 0 0"),
+            (kernel(0, -2, 2), "0 run 5 0 - - 0 30"),
+            (names(1), "0 on 5 8 1 - 0 0"),
+        ],
+    );
+    assert_eq!((desk.living_of(0), desk.living_of(1), desk.living_of(2)), (1, 0, 2));
+}
+
+#[test]
 fn clocks() {
     // "Gap 2,147,483,647, 2,147,483,648", "Clock from 4,294,967,295 to 4 (gap 5)"
     let mut desk = family(0);
     refuses(&desk, kernel(GAP_MAX + 1, -6, 0), 2);
     play(&mut desk, [(kernel(GAP_MAX, -6, 0), "0 on 0 2147483647 - - 0 0")]);
-    let mut desk = Desk::fresh(u32::MAX, ZERO).unwrap();
+    let mut desk = Desk::fresh(u32::MAX, ZERO, ALL).unwrap();
     play(&mut desk, [(kernel(4, -6, 0), "0 on 0 5 - - 0 0")]);
     // The gap of a refused event is part of the next one's.
     let mut desk = family(0);
@@ -366,14 +440,34 @@ fn refusals_in_order() {
 }
 
 #[test]
-fn refused_start() {
+fn refused_starts() {
+    let (too_large, bad) = (Err(StartRefusal::ValueTooLarge), Err(StartRefusal::BadCeilings));
     let mut values = ZERO;
     values[31] = VALUE_MAX;
-    assert!(Desk::fresh(9, values).is_ok());
+    assert!(Desk::fresh(9, values, ALL).is_ok());
     values[31] += 1;
-    assert_eq!(Desk::fresh(9, values), Err(ValueTooLarge));
+    // "refusal 27 after 24"
+    assert_eq!(Desk::fresh(9, values, ALL), too_large);
+    assert_eq!(Desk::fresh(9, values, [0; CUSTOMERS]), too_large);
+    for allowed in [[1, 0, 0, 0, 0, 0, 0, 0, 0], [1, 0, 0, 0, 0, 0, 0, 0, 19], [4, 2, 2, 2, 2, 2, 2, 2, 2]] {
+        assert!(Desk::fresh(9, ZERO, allowed).is_ok());
+    }
+    for refused in [
+        [0; CUSTOMERS],
+        [0, 20, 0, 0, 0, 0, 0, 0, 0],
+        [21, 0, 0, 0, 0, 0, 0, 0, 0],
+        [1, 0, 0, 0, 0, 0, 0, 0, 20],
+        [4, 2, 2, 2, 2, 2, 2, 2, 3],
+        [256, 0, 0, 0, 0, 0, 0, 0, 0],
+        [1, 65_535, 1, 0, 0, 0, 0, 0, 0],
+        [32_768, 32_768, 0, 0, 0, 0, 0, 0, 0],
+        [65_535; CUSTOMERS],
+    ] {
+        assert_eq!(Desk::fresh(9, ZERO, refused), bad);
+    }
     let desk = Desk::refused();
     assert_eq!((desk.alive(), desk.last_id, desk.clock, desk.total), (0, 1, 0, 0));
+    assert_eq!(desk.ceilings, [1, 0, 0, 0, 0, 0, 0, 0, 0]);
     refuses(&desk, interrupt(0, 2, 0, 0), 1);
 }
 
@@ -387,6 +481,7 @@ fn tables_stay_in_order() {
         for event in log.events {
             desk.event(&event.unwrap());
             in_order(&desk);
+            assert_eq!(desk.ceilings, log.start.ceilings);
         }
     }
 }
@@ -409,7 +504,13 @@ fn in_order(desk: &Desk) {
         assert_eq!(process.line, line);
         assert_eq!(desk.find(process.id), Some(slot));
         assert!(process.id <= desk.last_id && process.parent < process.id);
-        assert!(process.parent == 0 && process.id == 1 || desk.find(process.parent).is_some());
+        match desk.find(process.parent) {
+            Some(parent) => assert!([0, process.customer].contains(&desk.process(parent).customer)),
+            None => assert_eq!((process.parent, process.id, process.customer), (0, 1, 0)),
+        }
+    }
+    for customer in 0..CUSTOMERS {
+        assert!(desk.living_of(customer) <= desk.ceilings[customer].into());
     }
     assert!(desk.values.iter().all(|&value| value <= VALUE_MAX));
     assert!(desk.ready.is_empty() || desk.running.is_some());

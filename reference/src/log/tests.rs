@@ -1,9 +1,10 @@
 //! The log refusals, in the first, a middle and the last field, and their order.
 
 use super::*;
+use crate::desk::VALUE_MAX;
 use crate::{damage, generate};
 
-const START: Start = Start { clock: 0, values: [0; SEMAPHORES] };
+const START: Start = Start { clock: 0, values: [0; SEMAPHORES], ceilings: [3, 15, 0, 0, 0, 0, 0, 0, 2] };
 
 fn tick(clock: u32) -> Vec<u8> {
     Event { clock, kind: Kind::Interrupt(Interrupt { line: 2, first: 0, second: 0 }) }.to_field()
@@ -47,7 +48,9 @@ fn layout() {
     assert_eq!(call(1), [2, 21, 0, 5, 0, 0, 0, 1, 250, 255, 255, 255, 1, 0, 0, 0, 2, 0, 0, 0, 3, 0, 0, 0]);
     assert_eq!(tick(258), [3, 7, 0, 2, 1, 0, 0, 2, 0, 0]);
     assert_eq!(Event { clock: 1, kind: Kind::Exception { code: 9 } }.to_field(), [4, 5, 0, 1, 0, 0, 0, 9]);
-    assert_eq!(START.to_field().len(), 135);
+    let start = START.to_field();
+    assert_eq!((start.len(), &start[..3]), (153, &[1, 150, 0][..]));
+    assert_eq!(start[135..], [3, 0, 15, 0, 0, 0, 0, 0, 0, 0, 0, 0, 0, 0, 0, 0, 2, 0]);
     assert_eq!(lines(&START.to_field()), "");
     assert_eq!(lines(&[START.to_field(), call(1)].concat()), "1 0 on 0 5 - - 0 0\n");
     assert_eq!(lines(&[START.to_field(), call(0)].concat()), "1 0 halt - - - - 0 1\n");
@@ -100,13 +103,42 @@ fn order_values_and_modes() {
 }
 
 #[test]
+fn ceilings() {
+    // "else refusal 27 after 24": and after 23
+    let with = |ceilings| Start { ceilings, ..START };
+    for refused in [
+        [0, 20, 0, 0, 0, 0, 0, 0, 0],
+        [1, 0, 0, 0, 0, 0, 0, 0, 20],
+        [1, 0, 0, 0, 0, 0, 0, 0, 256],
+        [1, 65_535, 1, 0, 0, 0, 0, 0, 0],
+    ] {
+        refused_start(&with(refused), 27);
+        let mut start = with(refused);
+        start.values[31] = VALUE_MAX + 1;
+        refused_start(&start, 24);
+    }
+    assert_eq!(lines(&with([1, 0, 0, 0, 0, 0, 0, 0, 19]).to_field()), "");
+    // A start without ceilings: with the new length, and with its own.
+    let mut start = START.to_field();
+    start.truncate(135);
+    assert_eq!(lines(&start), "log 0 20\n");
+    start[1] = 132;
+    refused(&start, 22, 22, 22);
+}
+
+#[track_caller]
+fn refused_start(start: &Start, number: u8) {
+    refused(&start.to_field(), number, 23, 23);
+}
+
+#[test]
 fn empty_and_long() {
     assert_eq!(lines(&[]), "log 0 23\n");
-    let mut long = [START.to_field(), tick(1).repeat(6540)].concat();
+    let mut long = [START.to_field(), tick(1).repeat(6538)].concat();
     assert!(long.len() < MAX_BYTES);
-    assert_eq!(lines(&long).lines().count(), 6540);
+    assert_eq!(lines(&long).lines().count(), 6538);
     long.resize(MAX_BYTES, 3);
-    assert_eq!(lines(&long).lines().last(), Some("log 6541 20"));
+    assert_eq!(lines(&long).lines().last(), Some("log 6539 22"));
     long.push(3);
     assert_eq!(lines(&long), "log 0 26\n");
 }

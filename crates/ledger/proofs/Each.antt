@@ -1,0 +1,102 @@
+-- What holds for each of the living, and for a newborn, holds for each of the living after an event. The newborn's words are the event's own.
+use mathlib.Core.Path.{sym, subst}
+use mathlib.Core.Bool.{not}
+use mathlib.Core.List.{List, _++_, map}
+use Prim.Native.Nat.{ℕ}
+use lib.Dec.{eqb}
+use lib.IntN.{pos, negsuc}
+use Rattle.rules.specs.declared.Event.{Event}
+use Rattle.rules.specs.declared.Event.the-variants.{Call, Interrupt, Exception}
+use Rattle.rules.specs.Words.{front}
+use Rattle.rules.specs.Cases.{if-cases, first-cases, All, All-over, All-under, All-append, All-those, All-front, All-rest, All-without, getD-cases}
+use Rattle.rules.specs.Machine.{Process, Waiter, Machine, living, at, line, family, child-of, newborn, charge}
+use Rattle.rules.specs.Living.{process, all-living, all-running, all-ready, all-waiting}
+use Rattle.rules.specs.Answers.{Outcome}
+use Rattle.rules.specs.Rules.{denied, value, clock}
+use Rattle.ledger.specs.History.{a2-of}
+use Rattle.ledger.specs.Kills.{passed-up, target}
+use Rattle.ledger.specs.Moves.{Move, none, steps-back, joins, first-wakes, all-wake, is-born, ends, call-moves, carried-out, move, moved, queue, Moved}
+use Rattle.ledger.proofs.Lines.{line-all}
+
+-- the support handle that an event carries
+abbrev pub a3-of : Event → ℕ
+a3-of (Call now mode a0 a1 a2 a3) = a3
+a3-of (Interrupt now n x y) = 0
+a3-of (Exception now code) = 0
+
+-- ── A birth is one with the words of the event ──
+
+-- what is said of a newborn's priority and handle
+abbrev Born : (ℕ → ℕ → Type 0) → Move → Type 0
+Born Q none = Unit {0}
+Born Q steps-back = Unit {0}
+Born Q (joins l) = Unit {0}
+Born Q (first-wakes l) = Unit {0}
+Born Q (all-wake l) = Unit {0}
+Born Q (is-born a2 a3) = Q a2 a3
+Born Q (ends n) = Unit {0}
+
+out-words : (Q : ℕ → ℕ → Type 0) (e : Event) (m : Machine) → Q (a2-of e) (a3-of e) → Born Q (carried-out e m)
+out-words Q (Call now mode (pos n) a1 a2 a3) m q = tt
+out-words Q (Call now mode (negsuc n) a1 a2 a3) m q =
+    getD-cases (Born Q) (call-moves a1 a2 a3 m) (
+      first-cases (Born Q) (m .running) (λ _. tt) (λ p _ _. if-cases (Born Q) (denied (child-of (p .customer) a2) m) (λ _. tt) (λ _. q)),
+      (tt, (if-cases (Born Q) (eqb (value a1 m) 0) (λ _. tt) (λ _. tt), (tt, (tt, (tt, (tt, (tt, (tt, (tt, tt))))))))),
+    ) tt n
+out-words Q (Interrupt now n x y) m q = if-cases (Born Q) (eqb n 1) (λ _. tt) (λ _. if-cases (Born Q) (eqb n 2) (λ _. tt) (λ _. tt))
+out-words Q (Exception now code) m q = tt
+
+move-words : (Q : ℕ → ℕ → Type 0) (e : Event) (m : Machine) → Q (a2-of e) (a3-of e) → Born Q (move e m)
+move-words Q e m q = first-cases (Born Q) (target e m) (λ _. if-cases (Born Q) (passed-up e m) (λ _. tt) (λ _. out-words Q e m q)) (λ n ns _. tt)
+
+-- ── Each in the lists after a move ──
+
+module _ (P : Process → Type 0) (m : Machine) (h : All P (living m)) where
+  runs : All P (m .running)
+  runs = all-running P m h
+
+  rdy : All P (m .ready)
+  rdy = all-ready P m h
+
+  wts : All (λ w. P (w .process)) (m .waiting)
+  wts = All-under P process (m .waiting) (all-waiting P m h)
+
+  on-each : (v : Move) → All P (moved v m .on)
+  on-each none = runs
+  on-each steps-back = tt
+  on-each (joins l) = tt
+  on-each (first-wakes l) = runs
+  on-each (all-wake l) = runs
+  on-each (is-born a2 a3) = runs
+  on-each (ends n) = tt
+
+  ready-each : (v : Move) → Born (λ a2 a3. All P (map (λ p. newborn p a2 a3 m) (m .running))) v → All P (moved v m .ready)
+  ready-each none s = rdy
+  ready-each steps-back s = All-append P (m .ready) (m .running) rdy runs
+  ready-each (joins l) s = rdy
+  ready-each (first-wakes l) s = All-append P (m .ready) (front (line l m)) rdy (All-front P (line l m) (line-all P l m h))
+  ready-each (all-wake l) s = All-append P (m .ready) (line l m) rdy (line-all P l m h)
+  ready-each (is-born a2 a3) s = All-append P (m .ready) (map (λ p. newborn p a2 a3 m) (m .running)) rdy s
+  ready-each (ends n) s = All-those P (λ p. not (family n p)) (m .ready ++ m .running) (All-append P (m .ready) (m .running) rdy runs)
+
+  waiting-each : (v : Move) → All (λ w. P (w .process)) (moved v m .waiting)
+  waiting-each none = wts
+  waiting-each steps-back = wts
+  waiting-each (joins l) = All-append (λ w. P (w .process)) (m .waiting) _ wts (All-over (λ w. P (w .process)) (λ p. record { process = p; line = l }) (m .running) runs)
+  waiting-each (first-wakes l) = All-without (λ w. P (w .process)) (at l) (m .waiting) wts
+  waiting-each (all-wake l) = All-those (λ w. P (w .process)) (λ w. not (at l w)) (m .waiting) wts
+  waiting-each (is-born a2 a3) = wts
+  waiting-each (ends n) = All-those (λ w. P (w .process)) (λ w. not (family n (w .process))) (m .waiting) wts
+
+  each-after : (v : Move) (o : Outcome) → Moved v m o → Born (λ a2 a3. All P (map (λ p. newborn p a2 a3 m) (m .running))) v → All P (living (o .after))
+  each-after v o w s =
+      let q : All P (queue v m) = All-append P (moved v m .on) (moved v m .ready) (on-each v) (ready-each v s) in
+      all-living P (o .after)
+      (subst (All P) (sym (w .runs)) (All-front P (queue v m) q))
+      (subst (All P) (sym (w .ready)) (All-rest P (queue v m) q))
+      (subst (λ (ws : List Waiter). All P (map process ws)) (sym (w .waiting)) (All-over P process (moved v m .waiting) (waiting-each v)))
+
+-- an event in the machine m: the gap is charged first
+pub moved-each : (P : Process → Type 0) (m : Machine) (e : Event) (o : Outcome) → let k = charge (clock e) m in Moved (move e m) k o
+    → All P (living k) → All P (map (λ p. newborn p (a2-of e) (a3-of e) k) (k .running)) → All P (living (o .after))
+moved-each P m e o v h new = let k = charge (clock e) m in each-after P k h (move e m) o v (move-words (λ a2 a3. All P (map (λ p. newborn p a2 a3 k) (k .running))) e m new)
