@@ -1,8 +1,9 @@
 //! How often each kind of event, answer and situation comes up over some seeds.
 
 use crate::desk::{
-    Action, Answer, Call, Desk, Event, Interrupt, Kind, Mode, CUSTOMERS, GAP_MAX, SLOTS, VALUE_MAX,
+    Action, Answer, Call, Desk, Event, Interrupt, Kind, Mode, Process, CUSTOMERS, GAP_MAX, SLOTS, VALUE_MAX,
 };
+use crate::kin::Kin;
 use crate::log::{Log, LogRefusal, Reason, Start};
 use crate::{damage, generate, line, log};
 use std::collections::BTreeMap;
@@ -47,7 +48,15 @@ const NAMES: &[(&str, &[&str])] = &[
     ("I/O", &["waits", "odd number"]),
     ("terminate", &["caller", "by own id", "ancestor"]),
     ("terminate", &["another, others ready", "another, nobody else ready", "the killer's turn"]),
+    ("terminate", &["hands off, others ready", "hands off, nobody else ready", "the spared one's turn"]),
     ("terminate", &["nobody alive", "2147483648 or more"]),
+    ("named by customer 0", &["itself", "a child", "a deeper descendant", "an ancestor"]),
+    ("named by customer 0", &["a sibling", "a cousin", "another customer's"]),
+    (
+        "named by another",
+        &["itself", "a child", "a deeper descendant", "an ancestor", "a sibling", "a cousin"],
+    ),
+    ("named by another", &["an ancestor of customer 0", "another of customer 0", "another customer's"]),
     ("tick", &["for nobody", "for one", "for several"]),
     ("death", &["alone", "with descendants"]),
 ];
@@ -89,7 +98,7 @@ impl Count {
             Err(refusal) => return self.add("log", refusal.reason as u8),
         };
         let mut desk = start.desk();
-        let mut killer = None;
+        let (mut killer, mut spared) = (None, None);
         let mut denied = [false; CUSTOMERS];
         for event in events {
             match event {
@@ -97,7 +106,10 @@ impl Count {
                     let before = desk.clone();
                     let answer = desk.event(&event);
                     self.event(&before, &event, &answer);
-                    killer = self.turn(killer, &before, &answer);
+                    let awaited = self.turn("the killer's turn", killer, &answer);
+                    killer = goes_behind(&before, &answer).or(awaited);
+                    let awaited = self.turn("the spared one's turn", spared, &answer);
+                    spared = is_spared(&before, &event, &answer).or(awaited);
                     self.place(&mut denied, &before, &event, &answer);
                 }
                 Err(refusal) => return self.add("log", refusal.reason as u8),
@@ -272,31 +284,50 @@ impl Count {
     }
 
     fn terminate(&mut self, before: &Desk, call: &Call, answer: &Answer) {
-        let own = before.running.map(|slot| before.process(slot).id);
+        let caller = before.running.expect("a call has a caller");
+        let named = if call.a1 == 0 { Some(caller) } else { before.find(call.a1) };
+        if let Some(named) = named {
+            self.named(before, before.process(caller), before.process(named));
+        }
+        let alone = before.ready.iter().all(|slot| answer.ended >> slot & 1 == 1);
         let name = match answer.result {
-            Some(0) if before.ready.iter().all(|slot| answer.ended >> slot & 1 == 1) => {
-                "another, nobody else ready"
-            }
+            Some(0) if alone => "another, nobody else ready",
             Some(0) => "another, others ready",
+            Some(_) if named.is_some() && alone => "hands off, nobody else ready",
+            Some(_) if named.is_some() => "hands off, others ready",
             Some(_) if call.a1 > i32::MAX as u32 => "2147483648 or more",
             Some(_) => "nobody alive",
             None if call.a1 == 0 => "caller",
-            None if own == Some(call.a1) => "by own id",
+            None if named == Some(caller) => "by own id",
             None => "ancestor",
         };
         self.add("terminate", name);
     }
 
-    /// The last killer that went behind others, until its turn comes or it ends.
-    fn turn(&mut self, killer: Option<usize>, before: &Desk, answer: &Answer) -> Option<usize> {
-        if answer.killer_survives() {
-            return before.running.filter(|&slot| answer.action != Action::Run(slot));
+    /// Who names whom.
+    fn named(&mut self, before: &Desk, caller: &Process, named: &Process) {
+        let group = if caller.customer == 0 { "named by customer 0" } else { "named by another" };
+        let name = match Kin::of(before, caller, named) {
+            Kin::Itself => "itself",
+            Kin::Child => "a child",
+            Kin::Deeper => "a deeper descendant",
+            Kin::Ancestor if named.customer != caller.customer => "an ancestor of customer 0",
+            Kin::Ancestor => "an ancestor",
+            Kin::Sibling => "a sibling",
+            Kin::Cousin => "a cousin",
+            Kin::Stranger if named.customer == 0 => "another of customer 0",
+            Kin::Stranger => "another customer's",
+        };
+        self.add(group, name);
+    }
+
+    /// Somebody is awaited, until its turn comes or it ends.
+    fn turn(&mut self, name: &str, awaited: Option<usize>, answer: &Answer) -> Option<usize> {
+        let awaited = awaited.filter(|slot| answer.ended >> slot & 1 == 0)?;
+        if answer.action != Action::Run(awaited) {
+            return Some(awaited);
         }
-        let killer = killer.filter(|slot| answer.ended >> slot & 1 == 0)?;
-        if answer.action != Action::Run(killer) {
-            return Some(killer);
-        }
-        self.add("terminate", "the killer's turn");
+        self.add("terminate", name);
         None
     }
 
@@ -326,44 +357,76 @@ impl Count {
     }
 }
 
+/// A killer that survives and goes behind others.
+fn goes_behind(before: &Desk, answer: &Answer) -> Option<usize> {
+    before.running.filter(|&slot| answer.killer_survives() && answer.action != Action::Run(slot))
+}
+
+/// One that is alive and was named by a terminate that gave −1.
+fn is_spared(before: &Desk, event: &Event, answer: &Answer) -> Option<usize> {
+    match event.kind {
+        Kind::Call(Call { a0: -2, a1, .. }) if answer.result == Some(-1) => before.find(a1),
+        _ => None,
+    }
+}
+
 #[cfg(test)]
 mod tests {
     use super::*;
 
-    /// `generate --count 1..400` prints these and more: 114,084 events in 400 logs.
+    /// `generate --count 1..400` prints these and more: 113,142 events in 400 logs.
     const AT_THE_GATE: &[(&str, u64)] = &[
-        ("refusal: 0", 83_821),
-        ("refusal: 1", 17_333),
-        ("refusal: 2", 6_245),
-        ("refusal: 4", 2_663),
-        ("refusal: 5", 2_368),
-        ("refusal: 6", 1_654),
-        ("action: on", 45_031),
-        ("action: run", 22_148),
-        ("action: wait", 9_930),
-        ("action: halt", 44),
-        ("action: panic", 35),
-        ("action: up0", 948),
-        ("action: up1", 5_685),
-        ("terminate: another, others ready", 723),
-        ("terminate: another, nobody else ready", 244),
-        ("terminate: the killer's turn", 572),
-        ("create: customer 0 for itself", 2_598),
-        ("create: customer 0 for another", 1_926),
-        ("create: another, whatever a2 says", 1_774),
-        ("create: another, though a2 / 256 is above 8", 164),
-        ("create: beside a customer at its ceiling", 1_601),
-        ("create: the last place", 1_422),
-        ("create: a place given back", 859),
-        ("create: the twentieth", 291),
-        ("denied: customer 0 for itself", 1_542),
-        ("denied: customer 0 for another", 796),
-        ("denied: another for itself", 5_049),
-        ("denied: ceiling 0", 358),
-        ("denied: 9 to 255 named", 159),
-        ("denied: 256 or more named", 291),
-        ("denied: slots free", 5_956),
-        ("denied: no slot free", 1_789),
+        ("refusal: 0", 85_217),
+        ("refusal: 1", 13_694),
+        ("refusal: 2", 6_651),
+        ("refusal: 4", 3_843),
+        ("refusal: 5", 2_162),
+        ("refusal: 6", 1_575),
+        ("action: on", 46_838),
+        ("action: run", 23_716),
+        ("action: wait", 7_595),
+        ("action: halt", 29),
+        ("action: panic", 25),
+        ("action: up0", 968),
+        ("action: up1", 6_046),
+        ("terminate: another, others ready", 1_098),
+        ("terminate: another, nobody else ready", 431),
+        ("terminate: the killer's turn", 844),
+        ("terminate: hands off, others ready", 1_100),
+        ("terminate: hands off, nobody else ready", 714),
+        ("terminate: the spared one's turn", 575),
+        ("named by customer 0: itself", 292),
+        ("named by customer 0: a child", 540),
+        ("named by customer 0: a deeper descendant", 162),
+        ("named by customer 0: an ancestor", 89),
+        ("named by customer 0: a sibling", 174),
+        ("named by customer 0: a cousin", 156),
+        ("named by customer 0: another customer's", 94),
+        ("named by another: itself", 536),
+        ("named by another: a child", 353),
+        ("named by another: a deeper descendant", 50),
+        ("named by another: an ancestor", 373),
+        ("named by another: an ancestor of customer 0", 400),
+        ("named by another: a sibling", 309),
+        ("named by another: a cousin", 286),
+        ("named by another: another of customer 0", 139),
+        ("named by another: another customer's", 307),
+        ("create: customer 0 for itself", 3_438),
+        ("create: customer 0 for another", 1_683),
+        ("create: another, whatever a2 says", 2_608),
+        ("create: another, though a2 / 256 is above 8", 241),
+        ("create: beside a customer at its ceiling", 1_943),
+        ("create: the last place", 1_938),
+        ("create: a place given back", 1_101),
+        ("create: the twentieth", 429),
+        ("denied: customer 0 for itself", 1_515),
+        ("denied: customer 0 for another", 928),
+        ("denied: another for itself", 5_831),
+        ("denied: ceiling 0", 346),
+        ("denied: 9 to 255 named", 172),
+        ("denied: 256 or more named", 356),
+        ("denied: slots free", 6_796),
+        ("denied: no slot free", 1_824),
         ("start: customer 0 alone", 62),
         ("start: sum of 20", 206),
         ("start: sum below 20", 41),
@@ -371,13 +434,13 @@ mod tests {
         ("start: 27 for ceiling 0", 4),
         ("start: 27 for the sum", 15),
         ("start: 27 for a sum that wraps", 6),
-        ("log: whole", 210),
+        ("log: whole", 209),
         ("log: 20", 19),
-        ("log: 21", 15),
-        ("log: 22", 37),
+        ("log: 21", 16),
+        ("log: 22", 38),
         ("log: 23", 37),
         ("log: 24", 25),
-        ("log: 25", 12),
+        ("log: 25", 11),
         ("log: 26", 20),
         ("log: 27", 25),
     ];

@@ -287,10 +287,10 @@ impl Desk {
         Answer { newborn: Some(slot), ..Answer::result(action, self.last_id.into()) }
     }
 
-    /// "a1 = 0 means the caller, otherwise an id."
+    /// "a1 = 0 means the caller, otherwise an id." Any other than one that may be named gives −1.
     fn terminate(&mut self, caller: usize, id: u32) -> Answer {
         let named = if id == 0 { Some(caller) } else { self.find(id) };
-        let Some(slot) = named else {
+        let Some(slot) = named.filter(|&slot| self.may_name(caller, slot)) else {
             return Answer::result(Action::On(caller), -1);
         };
         let ended = self.end(slot);
@@ -299,6 +299,12 @@ impl Desk {
             None => Answer::new(self.schedule()),
         };
         Answer { ended, ..answer }
+    }
+
+    /// "only the caller itself or its own descendants; customer 0 may still name anyone"
+    fn may_name(&self, caller: usize, slot: usize) -> bool {
+        let caller = self.process(caller);
+        caller.customer == 0 || self.descent(self.process(slot)).any(|process| process.id == caller.id)
     }
 
     /// "a surviving caller with a valid target goes to the end of its ready line with result 0,
@@ -449,6 +455,12 @@ impl Desk {
     pub(crate) fn find(&self, id: u32) -> Option<usize> {
         let named = |entry: &Option<Process>| matches!(entry, Some(process) if process.id == id);
         self.slots.iter().position(named)
+    }
+
+    /// A process, its parent, and so on up to id 1.
+    pub(crate) fn descent<'a>(&'a self, process: &'a Process) -> impl Iterator<Item = &'a Process> {
+        let parent = |child: &&Process| self.find(child.parent).map(|slot| self.process(slot));
+        std::iter::successors(Some(process), parent)
     }
 
     pub(crate) fn living(&self) -> impl Iterator<Item = &Process> {

@@ -5,6 +5,7 @@ use crate::desk::{
     Call, Desk, Event, Interrupt, Kind, Mode, CUSTOMERS, GAP_MAX, ID_MAX, SEMAPHORES, SLOTS, SUB_DEVICES,
     VALUE_MAX,
 };
+use crate::kin::Kin;
 use crate::log::{Start, MAX_BYTES};
 use crate::rng::Rng;
 
@@ -14,7 +15,7 @@ type Topic = fn(&mut Generator) -> Kind;
 /// How often a topic comes up in logs, where much goes wrong, and in streams: a busy gateway.
 const MIX: [(Topic, u32, u32); 20] = [
     (Generator::create, 14, 45),
-    (|g| g.kernel(-2, Generator::target), 8, 15),
+    (|g| g.kernel(-2, Generator::target), 12, 25),
     (|g| g.p_or_v(-3), 14, 160),
     (|g| g.p_or_v(-4), 12, 150),
     (|g| g.kernel(-5, Generator::io_device), 9, 140),
@@ -170,6 +171,9 @@ impl Generator {
         if self.flood.is_some() && !self.desk.over && !self.rng.one_in(8) {
             return Generator::create;
         }
+        if !self.stream && self.has_room_below() && self.rng.one_in(4) {
+            return Generator::create;
+        }
         let sum = self.mix.iter().map(|(_, often)| often).sum();
         let mut place = self.rng.below(sum);
         for &(topic, often) in &self.mix {
@@ -179,6 +183,15 @@ impl Generator {
             place -= often;
         }
         unreachable!("the place is below the sum")
+    }
+
+    /// Whether the caller has no child yet, and room for one: so families grow deep.
+    fn has_room_below(&self) -> bool {
+        let Some(caller) = self.desk.running.map(|slot| self.desk.process(slot)) else {
+            return false;
+        };
+        let childless = self.desk.living().all(|process| process.parent != caller.id);
+        childless && !self.desk.at_ceiling(caller.customer)
     }
 
     // Calls.
@@ -236,7 +249,8 @@ impl Generator {
         self.rng.pick(&[0, 0, 0, 1, 2, 1 << 31, word])
     }
 
-    /// An id: the living, an ancestor, the caller, the dead, the unborn and the impossible.
+    /// An id: the caller's own, those above, below and beside it, the dead, the unborn and the
+    /// impossible. In streams a caller with nobody below it rather ends.
     fn target(&mut self) -> u32 {
         let living: Vec<u32> = self.desk.living().map(|process| process.id).collect();
         let last = self.desk.last_id;
@@ -245,17 +259,36 @@ impl Generator {
         if living.is_empty() {
             return last;
         }
-        match self.rng.below(12) {
+        let any = self.rng.pick(&living);
+        let childless = if self.stream { own } else { any };
+        match self.rng.below(if self.stream { 13 } else { 16 }) {
             0 => 0,
             1 => own,
             2 => parent,
             3 => self.ancestor(parent),
             4 => 1 + self.rng.below(last),
             5 => last + 1 + self.rng.below(3),
-            6 => self.rng.pick(&living) | 1 << 31,
+            6 => any | 1 << 31,
             7 => self.rng.pick(&[ID_MAX, 1 << 31, u32::MAX]),
-            _ => self.rng.pick(&living),
+            8..=11 => self.relative(&[Kin::Child, Kin::Deeper, Kin::Deeper]).unwrap_or(childless),
+            _ => self.relative(&[Kin::Sibling, Kin::Cousin, Kin::Stranger]).unwrap_or(any),
         }
+    }
+
+    /// One of the living that is to the caller what is picked first, of these.
+    fn relative(&mut self, kinds: &[Kin]) -> Option<u32> {
+        let caller = self.desk.process(self.desk.running?);
+        let of = |&kind| {
+            let kin = self.desk.living().filter(|process| Kin::of(&self.desk, caller, process) == kind);
+            kin.map(|process| process.id).collect()
+        };
+        let mut some: Vec<Vec<u32>> = kinds.iter().map(of).collect();
+        some.retain(|ids| !ids.is_empty());
+        if some.is_empty() {
+            return None;
+        }
+        let picked = self.rng.index(some.len());
+        Some(self.rng.pick(&some[picked]))
     }
 
     fn ancestor(&mut self, mut id: u32) -> u32 {

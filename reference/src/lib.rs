@@ -4,6 +4,7 @@ pub mod count;
 pub mod damage;
 pub mod desk;
 pub mod generate;
+mod kin;
 pub mod line;
 pub mod log;
 pub mod rng;

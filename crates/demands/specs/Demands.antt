@@ -21,6 +21,7 @@ use Rattle.ledger.specs.Ids.{ids-issued, Ids, Newborn-told}
 use Rattle.ledger.specs.Customers.{create-call, Taken, Agree, Alike, Customers, childs-customer, Decided}
 use Rattle.ledger.specs.Places.{Places}
 use Rattle.ledger.specs.Kills.{Kills, Ancestors-alive}
+use Rattle.ledger.specs.Hands.{Other-runs, Hands-off}
 use Rattle.ledger.specs.Moves.{move, Moved}
 use Rattle.ledger.specs.Order.{In-order, Nobody-overtakes}
 use Rattle.ledger.specs.Semaphores.{Semaphores}
@@ -47,6 +48,7 @@ pub record Lawful (now : ℕ) (values ceilings : List ℕ) (es : List Event) (sa
   pub places : Places (past (beginning now) es said) end
   pub kills : (e : Event) → accepted (step end e .answer) ≡ true → Kills (past (beginning now) es said .births) end e
   pub ancestors : Ancestors-alive (past (beginning now) es said .births) end
+  pub hands-off : (e : Event) → Other-runs (past (beginning now) es said) → Hands-off (past (beginning now) es said) e (step end e .answer)
   pub moves : (e : Event) → accepted (step end e .answer) ≡ true → Moved (move e end) (charge (clock e) end) (step end e)
   pub order : (e : Event) → In-order end (step end e .after)
   pub nobody-overtakes : (later : List Event) → Nobody-overtakes end later
@@ -68,6 +70,7 @@ demand-3 now values ceilings es s rs ok t f =
       places = promises.places base-slots now values ceilings es (omega arith) ok;
       kills = promises.kills base-slots now values ceilings es (omega arith) ok;
       ancestors = promises.ancestors base-slots now values ceilings es (omega arith) ok;
+      hands-off = promises.hands-off base-slots now values ceilings es (omega arith) ok;
       moves = promises.moves base-slots now values ceilings es (omega arith) ok;
       order = promises.order base-slots now values ceilings es (omega arith) ok;
       nobody-overtakes = promises.nobody-overtakes base-slots now values ceilings es (omega arith) ok;

@@ -136,6 +136,10 @@ pub record Marks (parents ids : List ℕ) (n : ℕ) (ds : List Bool) : Type 0 wh
   pub long : length ds ≡ base-slots
   pub each : (s : ℕ) → s < base-slots → getD ds s false ≡ kin parents ids n s
 
+-- 02, (xi): who is in the slot s may name who is in the slot t, where rows are these
+abbrev pub may-name-at : List ℕ → List ℕ → List ℕ → ℕ → ℕ → Bool
+may-name-at customers parents ids s t = eqb (getD customers s 0) 0 || kin parents ids (getD ids s 0) t
+
 -- ── Customers ──
 
 -- 02, (ii): "the child's customer is at its ceiling, the named customer is above 8", where rows and ceilings are these

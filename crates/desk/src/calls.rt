@@ -16,6 +16,7 @@ ghost use Rattle.desk.specs.Contracts.{Comes, with-result};
 use crate::Answered;
 use crate::Machine;
 use crate::bare;
+use crate::kills::may_name;
 use crate::so_far;
 use lines::Found;
 use lines::find_id;
@@ -151,9 +152,12 @@ impl Machine {
         let at = self.running;
         let own = self.ids[at];
         let id = named(a1, own);
-        let Found::At(_) = find_id(&self.ids, id) else {
+        let Found::At(target) = find_id(&self.ids, id) else {
             return self.replies(Result::Says(-1));
         };
+        if !may_name(&self.ids, &self.parents, &self.customers, at, target) {
+            return self.replies(Result::Says(-1));
+        }
         let k = self.kill(id);
         let m = k.machine;
         if m.running < Machine::SLOTS {

@@ -124,9 +124,11 @@ kernel 1400 -3 0 ; id 2 waits on a semaphore
 kernel 1500 -5 9 ; id 3 waits at a device
 kernel 1600 -1 ; id 4 runs, id 5 is ready
 interrupt 1700 2 0 0
-kernel 1800 -2 2
-kernel 1900 -1 ; id 5
-kernel 2000 -1
+kernel 1800 -10
+kernel 1900 -10
+kernel 2000 -2 2 ; id 1 ends id 2
+kernel 2100 -1 ; id 4 has its place
+kernel 2200 -1
 
 # a death by a trap gives its place back
 start 1000

@@ -2,6 +2,7 @@
 mod calls;
 mod ceilings;
 mod fields;
+mod hands;
 mod interrupts;
 mod refusals;
 mod tried;
@@ -11,6 +12,7 @@ fn main() {
     refusals::all();
     calls::all();
     ceilings::all();
+    hands::all();
     interrupts::all();
     fields::all();
 }

@@ -94,16 +94,16 @@ interrupt 1100 7 2 1
     );
 }
 
-// "Kill by a child of its parent", "Kill of a waiter, then V"
+// "Kill by a child of its parent", where the child is customer 0
 fn kills() {
     play::play(
-        b"# kill by a child of its parent: both end
+        b"# kill by a child of its parent, customer 0: both end
 start 1000
 kernel 1100 -1
 kernel 1200 -10
 kernel 1300 -2 1
 
-# kill by a child of its parent: the grandparent lives on
+# kill by a child of its parent, customer 0: the grandparent lives on
 start 1000
 kernel 1100 -1
 kernel 1200 -10
@@ -112,7 +112,42 @@ kernel 1400 -10
 kernel 1500 -10
 kernel 1600 -2 2
 
-# kill of a waiter, then V: the value rises
+",
+    );
+}
+
+// 02, (xi): "now gives −1 and ends nobody, unless the child is customer 0"
+fn denied_kills() {
+    play::play(
+        b"# kill by a child of its parent, the child customer 1: -1, and nobody ends
+start 1000
+ceilings 1 1
+kernel 1100 -1 0 256
+kernel 1200 -10
+kernel 1300 -2 1
+kernel 1400 -9 1
+kernel 1500 -10
+
+# kill by a child of its parent, both customer 1: -1, and nobody ends
+start 1000
+ceilings 1 2
+kernel 1100 -1 0 256
+kernel 1200 -10
+kernel 1300 -1
+kernel 1400 -10
+kernel 1500 -10
+kernel 1600 -2 2
+kernel 1700 -10
+kernel 1800 -2 0
+
+",
+    );
+}
+
+// "Kill of a waiter, then V"
+fn killed_waiter() {
+    play::play(
+        b"# kill of a waiter, then V: the value rises
 start 1000
 kernel 1100 -1
 kernel 1200 -10
@@ -167,5 +202,7 @@ pub(crate) fn all() {
     gaps();
     values();
     kills();
+    denied_kills();
+    killed_waiter();
     quiet();
 }

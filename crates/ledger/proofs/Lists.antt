@@ -1,6 +1,6 @@
 -- Laws of lists that several of the proofs use.
 use mathlib.Core.Path.{_≡_, refl, sym, _∙_, ap}
-use mathlib.Core.Bool.{Bool, true, false, _||_}
+use mathlib.Core.Bool.{Bool, true, false, _||_, false≢true}
 use mathlib.Core.List.{List, [], _∷_, _++_}
 use Prim.Native.Nat.{ℕ, _+_}
 use native.Mathlib.Nat.{zero-add}
@@ -88,3 +88,12 @@ module _ {ℓ} {A : Type ℓ} where
       go : (b : Bool) → t x ≡ b → (if b then x ∷ those t xs else those t xs) ≡ y ∷ ys → (those t xs ≡ y ∷ ys → (any t xs ≡ true) × (t y ≡ true)) → (b || any t xs ≡ true) × (t y ≡ true)
       go true f e ih = let z : x ≡ y = cc in (refl, rw z at f)
       go false f e ih = ih e
+
+  -- somebody passes: what follows from anyone who does
+  pub any-each {κ μ} : {P : A → Type κ} {Q : Type μ} (t : A → Bool) (xs : List A) → All P xs → any t xs ≡ true → ((x : A) → P x → t x ≡ true → Q) → Q
+  any-each t [] h e f = absurd (false≢true e)
+  any-each {P = P} {Q = Q} t (x ∷ xs) h e f = go (t x) refl e (any-each t xs (h .1))
+    where
+      go : (b : Bool) → t x ≡ b → b || any t xs ≡ true → (any t xs ≡ true → ((x : A) → P x → t x ≡ true → Q) → Q) → Q
+      go true q e ih = f x (h .0) q
+      go false q e ih = ih e f

@@ -22,7 +22,7 @@ use Rattle.rules.specs.declared.Action.the-variants.{PassUp}
 use Rattle.rules.specs.declared.Answer.{Answer}
 use Rattle.rules.specs.Words.{if_then_else_, first, those, any, front, rest, without, count}
 use Rattle.rules.specs.Numbers.{top, sub-devices}
-use Rattle.rules.specs.Cases.{if-cases, first-cases, Single, single-cases, getD-past}
+use Rattle.rules.specs.Cases.{if-cases, first-cases, Single, single-cases, getD-past, and-left}
 use Rattle.rules.specs.Lines.{those-append}
 use Rattle.rules.specs.Machine.{Process, Waiter, Machine, with-sem, living, living-of, ceiling, nucleus-waits, at, line, back, block, dispatch, wake, wake-all, named, family, family-of, kill, lowest-free, child-of, newborn, birth, longer, gap, charge}
 use Rattle.rules.specs.Living.{sum-charged-same}
@@ -33,7 +33,7 @@ use Rattle.rules.specs.Walk.{charge-single, kill-none}
 use Rattle.rules.specs.Laws.{accepts, passed}
 use Rattle.ledger.specs.Places.{alive}
 use Rattle.ledger.proofs.Lists.{no-one, everyone, any-many, those-alike, nobody-passes, somebody-passes}
-use Rattle.ledger.specs.Kills.{passed-up, terminates, target-by, target}
+use Rattle.ledger.specs.Kills.{passed-up, terminates, valid-name, target-by, target}
 use Rattle.ledger.specs.Moves.{Move, none, steps-back, joins, first-wakes, all-wake, is-born, ends, creates, call-moves, carried-out, move, moved, woken, ended, Moved}
 
 -- ── Whoever runs goes on, or the first in the ready line runs: from the machine k, with the answer so far x ──
@@ -168,13 +168,17 @@ terminate now p a1 a2 a3 m r = named-one (if eqb a1 0 then p .id else a1)
         if family (q .id) p then Rules.die (q .id) m
         else Rules.schedule (giving (pos 0) (ending (family-of (q .id) m) plain)) (back (kill (q .id) m))
 
-    named-one : (n : ℕ) → Moved (first (if any (λ q. eqb n (q .id)) (living m) then n ∷ [] else []) none ends) m (first (those (named n) (living m)) (Rules.carry-on p (giving (negsuc 0) plain) m) others)
+    -- who has the id, and may be named
+    t : ℕ → Process → Bool
+    t n q = eqb n (q .id) && Rules.may-name p q
+
+    named-one : (n : ℕ) → Moved (first (if any (t n) (living m) then n ∷ [] else []) none ends) m (first (those (t n) (living m)) (Rules.carry-on p (giving (negsuc 0) plain) m) others)
     named-one n =
-        first-cases (Moved (first (if any (λ q. eqb n (q .id)) (living m) then n ∷ [] else []) none ends) m) (those (named n) (living m))
-        (λ e. rw (nobody-passes (λ q. eqb n (q .id)) (living m) e) (stays m (giving (negsuc 0) plain) p _ refl refl r))
+        first-cases (Moved (first (if any (t n) (living m) then n ∷ [] else []) none ends) m) (those (t n) (living m))
+        (λ e. rw (nobody-passes (t n) (living m) e) (stays m (giving (negsuc 0) plain) p _ refl refl r))
         (λ q qs e.
-        let k = somebody-passes (λ q. eqb n (q .id)) (living m) q qs e in
-        let z : n ≡ q .id = eqb-true n (q .id) (k .1) in
+        let k = somebody-passes (t n) (living m) q qs e in
+        let z : n ≡ q .id = eqb-true n (q .id) (and-left (eqb n (q .id)) (Rules.may-name p q) (k .1)) in
         rw (k .0) (subst (λ (j : ℕ). Moved (ends j) m (others q)) (sym z)
         (if-cases (Moved (ends (q .id)) m) (family (q .id) p) (λ f. dies (q .id) p m f r)
         (λ f. as-move (ends (q .id)) m (giving (pos 0) (ending (family-of (q .id) m) plain)) (back (kill (q .id) m)) _ refl (sym (spared-behind (q .id) m)) refl no-mask refl
@@ -317,12 +321,6 @@ performed (Exception now code) m s k =
 -- ── The charge before it changes nothing that the move depends on ──
 
 module _ (now : ℕ) (m : Machine) where
-  pub alive-charged : (n : ℕ) → alive n (charge now m) ≡ alive n m
-  alive-charged n =
-      any-many (λ p. eqb n (p .id)) (living (charge now m))
-      ∙ ap (leb 1) (sum-charged-same (λ p. count (eqb n (p .id))) (λ g p. refl) now m)
-      ∙ sym (any-many (λ p. eqb n (p .id)) (living m))
-
   pub living-charged : (c : ℕ) → living-of c (charge now m) ≡ living-of c m
   living-charged c = sum-charged-same (λ p. count (eqb c (p .customer))) (λ g p. refl) now m
 
@@ -365,8 +363,15 @@ module _ (now : ℕ) (m : Machine) where
   same-name g (Interrupt k n x y) p = refl
   same-name g (Exception k code) p = refl
 
+  valid-charged : (g : ℕ) (p : Process) (n : ℕ) → valid-name (longer g p) (charge now m) n ≡ valid-name p m n
+  unfolding Rules.may-name family
+  valid-charged g p n =
+      any-many (λ q. eqb n (q .id) && Rules.may-name p q) (living (charge now m))
+      ∙ ap (leb 1) (sum-charged-same (λ q. count (eqb n (q .id) && Rules.may-name p q)) (λ g q. refl) now m)
+      ∙ sym (any-many (λ q. eqb n (q .id) && Rules.may-name p q) (living m))
+
   by-charged : (g : ℕ) (e : Event) (p : Process) → target-by e (charge now m) (longer g p) ≡ target-by e m p
-  by-charged g e p = rw (up-charged e, same-name g e p, those-alike (λ n. alive n (charge now m)) (λ n. alive n m) (terminates e p) (everyone _ alive-charged (terminates e p))) refl
+  by-charged g e p = rw (up-charged e, same-name g e p, those-alike (valid-name (longer g p) (charge now m)) (valid-name p m) (terminates e p) (everyone _ (valid-charged g p) (terminates e p))) refl
 
   pub target-charged : (e : Event) → target e (charge now m) ≡ target e m
   unfolding charge

@@ -167,7 +167,7 @@ create p a1 a2 a3 m c =
 terminate : Says-neat Rules.terminate
 unfolding Rules.terminate Rules.die
 terminate p a1 a2 a3 m c =
-    first-cases Ends-neat (those (named (if eqb a1 0 then p .id else a1)) (living m)) (λ _. carry-neat p _ m (record { result = omega arith; device = tt })) λ q ys _.
+    first-cases Ends-neat (those (Rules.valid p a1) (living m)) (λ _. carry-neat p _ m (record { result = omega arith; device = tt })) λ q ys _.
     if-cases Ends-neat (family (q .id) p) (λ _. schedule-neat _ _ (record { result = tt; device = tt })) (λ _. schedule-neat _ _ (record { result = omega arith; device = tt }))
 
 passeren : Says-neat Rules.passeren

@@ -87,11 +87,19 @@ create p a1 a2 a3 m =
     if denied (child-of (p .customer) a2) m then carry-on p (giving (negsuc 0) plain) m
     else carry-on p (giving (pos (m .next)) (bearing (lowest-free m) plain)) (birth p a2 a3 m)
 
--- −2: "a1 = 0 means the caller, otherwise an id; an id that names nobody alive gives −1 and ends nobody; if the caller ends, schedule";
--- 02, (ix): "a surviving caller with a valid target goes to the end of its ready line with result 0, then schedule"
+-- 02, (xi): "terminate may now name only the caller itself or its own descendants; customer 0 may still name anyone": the caller, and the named
+unfoldable pub may-name : Process → Process → Bool
+may-name p q = eqb (p .customer) 0 || family (p .id) q
+
+-- −2: "a1 = 0 means the caller, otherwise an id"; the caller p, a1, and who is asked about
+abbrev pub valid : Process → ℕ → Process → Bool
+valid p a1 q = named (if eqb a1 0 then p .id else a1) q && may-name p q
+
+-- "an id that names nobody alive gives −1 and ends nobody; if the caller ends, schedule";
+-- 02, (ix): "a surviving caller with a valid target goes to the end of its ready line with result 0, then schedule"; (xi): "any other id gives −1"
 unfoldable pub terminate : Service
 terminate p a1 a2 a3 m =
-    first (those (named (if eqb a1 0 then p .id else a1)) (living m)) (carry-on p (giving (negsuc 0) plain) m) λ q.
+    first (those (valid p a1) (living m)) (carry-on p (giving (negsuc 0) plain) m) λ q.
     if family (q .id) p then die (q .id) m
     else schedule (giving (pos 0) (ending (family-of (q .id) m) plain)) (back (kill (q .id) m))
 
@@ -284,7 +292,7 @@ start slots now values ceilings =
 unfoldable pub rule-book : Unit {0}
 unfolding living at line nucleus-waits back block dispatch wake wake-all named family family-of kill lowest-free birth gap charge fresh
     mask nobody-ready schedule carry-on resume die pass-up-or-die trap tlb
-    denied create terminate passeren verhogen do-io cpu-time wait-clock support identity yield services service
+    denied create may-name terminate passeren verhogen do-io cpu-time wait-clock support identity yield services service
     sub-device tick device-done interrupt stopped bad-line bad-code needs-runner rows refusal refused
     call exception step answers run nothing-left too-large not-allowed start-refusal start
 rule-book = tt

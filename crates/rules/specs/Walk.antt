@@ -156,8 +156,8 @@ module _ (B : Machine → Type 0) (S : Answer → Machine → Type 0) (Q : Answe
   pub terminate : Serves Rules.terminate
   unfolding Rules.terminate Rules.carry-on
   terminate p a1 a2 a3 m r h =
-      first-cases Ends (those (named (if eqb a1 0 then p .id else a1)) (living m)) (λ _. w .carries _ p m r (w .gives _ plain m refl (w .begins m h))) λ q ys f.
-      let a = many-some (named (if eqb a1 0 then p .id else a1)) (named (q .id)) (living m) q ys f (own-name q) in
+      first-cases Ends (those (Rules.valid p a1) (living m)) (λ _. w .carries _ p m r (w .gives _ plain m refl (w .begins m h))) λ q ys f.
+      let a = many-some (Rules.valid p a1) (named (q .id)) (living m) q ys f (own-name q) in
       if-cases Ends (family (q .id) p) (λ e. die (q .id) p m e a r h)
       (λ e. schedule _ _ (back-none (kill (q .id) m)) (w .yields _ p _ (kill-other (q .id) p m r e) (w .gives _ _ _ refl (w .kills (q .id) p m a r h))))
 

@@ -169,9 +169,12 @@ fn children_of_customers() {
             (kernel(0, -5, 9), "0 run 3 - - 9 0 0"),
             (interrupt(0, 2, 0, 0), "0 on 3 - - - 1 0"),
             (names(0), "0 on 3 -1 - - 0 0"),
-            (kernel(0, -2, 3), "0 run 4 0 - - 0 4"),
-            (names(2), "0 on 4 6 2 - 0 0"),
-            (names(2), "0 on 4 -1 - - 0 0"),
+            (kernel(0, -10, 0), "0 run 4 - - - 0 0"),
+            (kernel(0, -10, 0), "0 run 0 - - - 0 0"),
+            (kernel(0, -2, 3), "0 run 3 0 - - 0 4"),
+            (names(2), "0 on 3 6 2 - 0 0"),
+            (names(2), "0 on 3 -1 - - 0 0"),
+            (kernel(0, -10, 0), "0 run 4 - - - 0 0"),
             (kernel(0, -10, 0), "0 run 0 - - - 0 0"),
             (names(2), "0 on 0 7 5 - 0 0"),
             (kernel(0, -2, 2), "0 run 5 0 - - 0 30"),
@@ -345,6 +348,70 @@ fn killers_that_survive() {
     assert_eq!(desk, before);
 }
 
+/// A living id that may not be named: −1, nobody ends, and the caller carries on.
+#[track_caller]
+fn hands_off(desk: &Desk, ids: &[u32]) {
+    let caller = desk.running.unwrap();
+    for &id in ids {
+        let mut after = desk.clone();
+        assert!(desk.find(id).is_some());
+        assert_eq!(say(&mut after, kernel(0, -2, id)), format!("0 on {caller} -1 - - 0 0"), "id {id}");
+        assert_eq!(&after, desk);
+    }
+}
+
+/// Id 1 has ids 2 and 3 of customer 1, 4 of customer 2 and 5 of customer 0; 6 and 7 are id 2's, 8
+/// is id 3's, 9 is id 6's. Id 6 runs, and then come the slots 6, 1, 7, 2, 3, 4, 0, 8.
+fn customers() -> Desk {
+    let mut desk = with_ceilings([4, 6, 3, 0, 0, 0, 0, 0, 0]);
+    let turn = kernel(0, -10, 0);
+    let births = [vec![1, 1, 2, 0], vec![1, 1], vec![1], vec![], vec![], vec![], vec![1]];
+    for (number, children) in births.into_iter().enumerate() {
+        if number > 0 {
+            desk.event(&turn);
+        }
+        children.into_iter().for_each(|customer| assert!(desk.event(&names(customer)).newborn.is_some()));
+    }
+    assert_eq!((desk.running, &desk.ready), (Some(5), &VecDeque::from([6, 1, 7, 2, 3, 4, 0, 8])));
+    desk
+}
+
+#[test]
+fn hands_off_others() {
+    // Ancestors, a sibling, an uncle and a cousin; another customer's, and customer 0's.
+    let mut desk = customers();
+    hands_off(&desk, &[1, 2, 7, 3, 8, 4, 5]);
+    // "only the caller itself or its own descendants": by its id, deeper ones, by 0.
+    play(
+        &mut desk,
+        [
+            (kernel(0, -10, 0), "0 run 6 - - - 0 0"),
+            (kernel(0, -2, 7), "0 run 1 - - - 0 64"),
+            (kernel(0, -2, 9), "0 run 7 0 - - 0 256"),
+            (kernel(0, -2, 0), "0 run 2 - - - 0 128"),
+        ],
+    );
+    hands_off(&desk, &[1, 2, 6, 4, 5]);
+    play(&mut desk, [(kernel(0, -10, 0), "0 run 3 - - - 0 0")]);
+    hands_off(&desk, &[1, 2, 6, 3, 5]);
+    // "customer 0 may still name anyone": beside it, and above it.
+    play(
+        &mut desk,
+        [
+            (kernel(0, -10, 0), "0 run 4 - - - 0 0"),
+            (kernel(0, -2, 4), "0 run 0 0 - - 0 8"),
+            (kernel(0, -10, 0), "0 run 5 - - - 0 0"),
+            (kernel(0, -10, 0), "0 run 1 - - - 0 0"),
+            (kernel(0, -2, 6), "0 run 2 0 - - 0 32"),
+            (kernel(0, -10, 0), "0 run 4 - - - 0 0"),
+            (kernel(0, -2, 1), "0 halt - - - - 0 23"),
+        ],
+    );
+    // Dying of a trap is no terminate: the family below ends, as ever.
+    let mut desk = customers();
+    play(&mut desk, [(exception(0, 0), "0 run 6 - - - 0 288")]);
+}
+
 #[test]
 fn small_calls() {
     let mut desk = family(0);
@@ -479,10 +546,26 @@ fn tables_stay_in_order() {
         let log = log::open(&bytes).unwrap();
         let mut desk = log.start.desk();
         for event in log.events {
-            desk.event(&event.unwrap());
+            let before = desk.clone();
+            let answer = desk.event(&event.unwrap());
             in_order(&desk);
+            own_family_ends(&before, &answer);
             assert_eq!(desk.ceilings, log.start.ceilings);
         }
+    }
+}
+
+/// While another than customer 0 runs, only that process and those below it end, all its customer's.
+fn own_family_ends(before: &Desk, answer: &Answer) {
+    let Some(running) =
+        before.running.map(|slot| before.process(slot)).filter(|running| running.customer != 0)
+    else {
+        return;
+    };
+    for slot in (0..SLOTS).filter(|slot| answer.ended >> slot & 1 == 1) {
+        let ended = before.process(slot);
+        assert_eq!(ended.customer, running.customer);
+        assert!(before.descent(ended).any(|process| process.id == running.id));
     }
 }
 
