@@ -31,7 +31,6 @@ use Rattle.rules.specs.Rules
 use Rattle.rules.specs.Rules.{Service, act, step}
 use Rattle.rules.specs.Walk.{charge-single, kill-none}
 use Rattle.rules.specs.Laws.{accepts, passed}
-use Rattle.ledger.specs.Places.{alive}
 use Rattle.ledger.proofs.Lists.{no-one, everyone, any-many, those-alike, nobody-passes, somebody-passes}
 use Rattle.ledger.specs.Kills.{passed-up, terminates, valid-name, target-by, target}
 use Rattle.ledger.specs.Moves.{Move, none, steps-back, joins, first-wakes, all-wake, is-born, ends, creates, call-moves, carried-out, move, moved, woken, ended, Moved}
