@@ -7,10 +7,10 @@ use lib.Dec.{eqb}
 use lib.IntN.{pos, negsuc}
 use Rattle.rules.specs.declared.Event.{Event}
 use Rattle.rules.specs.declared.Event.the-variants.{Call, Interrupt, Exception}
-use Rattle.rules.specs.Words.{front}
-use Rattle.rules.specs.Cases.{if-cases, first-cases, All, All-over, All-under, All-append, All-those, All-front, All-rest, All-without, getD-cases}
+use Rattle.rules.specs.Words.{front, All}
+use Rattle.rules.proofs.Cases.{if-cases, first-cases, All-over, All-under, All-append, All-those, All-front, All-rest, All-without, getD-cases}
 use Rattle.rules.specs.Machine.{Process, Waiter, Machine, living, at, line, family, child-of, newborn, charge}
-use Rattle.rules.specs.Living.{process, all-living, all-running, all-ready, all-waiting}
+use Rattle.rules.proofs.Living.{process, all-living, all-running, all-ready, all-waiting}
 use Rattle.rules.specs.Answers.{Outcome}
 use Rattle.rules.specs.Rules.{denied, value, clock}
 use Rattle.ledger.specs.History.{a2-of}

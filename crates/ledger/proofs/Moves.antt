@@ -20,17 +20,17 @@ use Rattle.rules.specs.declared.Cause.the-variants.{Tlb, General}
 use Rattle.rules.specs.declared.Action.{Action}
 use Rattle.rules.specs.declared.Action.the-variants.{PassUp}
 use Rattle.rules.specs.declared.Answer.{Answer}
-use Rattle.rules.specs.Words.{if_then_else_, first, those, any, front, rest, without, count}
+use Rattle.rules.specs.Words.{if_then_else_, first, those, any, front, rest, without, count, Single}
 use Rattle.rules.specs.Numbers.{top, sub-devices}
-use Rattle.rules.specs.Cases.{if-cases, first-cases, Single, single-cases, getD-past, and-left}
-use Rattle.rules.specs.Lines.{those-append}
+use Rattle.rules.proofs.Cases.{if-cases, first-cases, single-cases, getD-past, and-left}
+use Rattle.rules.proofs.Lines.{those-append}
 use Rattle.rules.specs.Machine.{Process, Waiter, Machine, with-sem, living, living-of, ceiling, nucleus-waits, at, line, back, block, dispatch, wake, wake-all, named, family, family-of, kill, lowest-free, child-of, newborn, birth, longer, gap, charge}
-use Rattle.rules.specs.Living.{sum-charged-same}
+use Rattle.rules.proofs.Living.{sum-charged-same}
 use Rattle.rules.specs.Answers.{Outcome, plain, mask, giving, bearing, ending, waking, naming}
 use Rattle.rules.specs.Rules
 use Rattle.rules.specs.Rules.{Service, act, step}
-use Rattle.rules.specs.Walk.{charge-single, kill-none}
-use Rattle.rules.specs.Laws.{accepts, passed}
+use Rattle.rules.proofs.Walk.{charge-single, kill-none}
+use Rattle.rules.proofs.Laws.{accepts, passed}
 use Rattle.ledger.proofs.Lists.{no-one, everyone, any-many, those-alike, nobody-passes, somebody-passes}
 use Rattle.ledger.specs.Kills.{passed-up, terminates, valid-name, target-by, target}
 use Rattle.ledger.specs.Moves.{Move, none, steps-back, joins, first-wakes, all-wake, is-born, ends, creates, call-moves, carried-out, move, moved, woken, ended, Moved}

@@ -21,19 +21,20 @@ use Rattle.rules.specs.declared.Result.{Result}
 use Rattle.rules.specs.declared.Part.{Part}
 use Rattle.rules.specs.declared.Part.the-variants.{Absent, Number}
 use Rattle.rules.specs.declared.Answer.{Answer}
-use Rattle.rules.specs.Words.{if_then_else_, first, those, sum, count, many}
+use Rattle.rules.specs.Words.{if_then_else_, first, those, sum, count, many, All}
 use Rattle.rules.specs.Numbers.{time-limit, sub-devices}
-use Rattle.rules.specs.Cases.{if-cases, first-cases, All, All-over, getD-cases}
-use Rattle.rules.specs.Sums.{sum-over, sum-front}
-use Rattle.rules.specs.Machine.{Process, Machine, living, at, line, nucleus-waits, named, family, longer, child-of, newborn, gap, charge, fresh}
-use Rattle.rules.specs.Living.{living-sum, sum-killed, each-charged, all-running}
+use Rattle.rules.proofs.Cases.{if-cases, first-cases, All-over, getD-cases}
+use Rattle.rules.proofs.Sums.{sum-over, sum-front}
+use Rattle.rules.specs.Machine.{Process, Machine, living, at, line, nucleus-waits, family, longer, child-of, newborn, gap, charge, fresh}
+use Rattle.rules.proofs.Living.{living-sum, sum-killed, each-charged, all-running}
 use Rattle.rules.specs.Answers.{Outcome, plain, mask, doing, giving}
 use Rattle.rules.specs.Rules
 use Rattle.rules.specs.Rules.{Service, step, run, answers, lowest-bit, sub-device, bad-line}
-use Rattle.rules.specs.Laws.{accepts, passed}
-use Rattle.rules.specs.Sound.{or-left, or-right, issued, Sound, in-slot, seated, sound-charged, named-after}
-use Rattle.rules.specs.Walk.{charge-single}
-use Rattle.rules.specs.Tables.{Tables, keeps, sound, short}
+use Rattle.rules.proofs.Laws.{accepts, passed}
+use Rattle.rules.proofs.Sound.{or-left, or-right, issued, seated, sound-charged, named-after}
+use Rattle.rules.specs.Tables.{Sound, in-slot, Tables}
+use Rattle.rules.proofs.Walk.{charge-single}
+use Rattle.rules.proofs.Tables.{keeps, sound, short}
 use Rattle.ledger.specs.History.{a2-of}
 use Rattle.ledger.specs.Ids.{Newborn-told}
 use Rattle.ledger.specs.Moves.{Move, none, steps-back, joins, first-wakes, all-wake, is-born, ends, move, woken, ended, Moved}

@@ -1,0 +1,17 @@
+-- What is proved of the rule book.
+-- Worked examples, by computing:
+pub mod Examples
+pub mod Edges
+-- That every event keeps the tables' rule, and what it is proved by:
+pub mod Tables
+pub mod Cases
+pub mod Sums
+pub mod Lines
+pub mod Free
+pub mod Living
+pub mod Walk
+pub mod Sound
+pub mod Kin
+pub mod Places
+pub mod Laws
+pub mod Status
