@@ -1,0 +1,123 @@
+// What a host sees of a machine: each look is one of crates/looks, at its tables.
+ghost use mathlib.Core.Path.{_≡_};
+ghost use Rattle.rules.specs.Answers.{mask};
+ghost use Rattle.rules.specs.Machine.{living, living-of, ceiling};
+ghost use Rattle.rules.specs.Rules.{value};
+ghost use Rattle.looks.specs.Looks.{who-runs, row-at, readies-in-order, waiting-in-order, sums, standing};
+ghost use Rattle.desk.specs.View.{view, Good};
+use crate::Machine;
+use looks::Order;
+use looks::Row;
+use looks::Status;
+use looks::Totals;
+use rules::Part;
+
+impl Machine {
+    // The slot of whoever runs, or absent.
+    pub fn running(self) -> Part
+        requires { ⌜ Good self ⌝ }
+        ensures { λ r. ⌜ r ≡ who-runs (view self) ⌝ }
+    {
+        let t = self.tables;
+        looks::running(t)
+    }
+
+    // The mask of the living, "bit n for slot n".
+    pub fn alive(self) -> u64
+        requires { ⌜ Good self ⌝ }
+        ensures { λ r. ⌜ r ≡ mask (living (view self)) ⌝ }
+    {
+        let t = self.tables;
+        looks::alive(t)
+    }
+
+    // All of the process in a slot: id, parent, customer, priority, handle, time and place; zeros where nobody is there.
+    pub fn row(self, slot: u8) -> Row
+        requires { ⌜ Good self ⌝ }
+        ensures { λ r. ⌜ r ≡ row-at slot (view self) ⌝ }
+    {
+        let t = self.tables;
+        looks::row_in(t, slot)
+    }
+
+    // The ready line, first come first.
+    pub fn ready(self) -> Order
+        requires { ⌜ Good self ⌝ }
+        ensures { λ r. ⌜ r ≡ readies-in-order (view self) ⌝ }
+    {
+        let t = self.tables;
+        looks::ready(t)
+    }
+
+    // All who wait, in the order in which they came; a row tells the line of each.
+    pub fn waiting(self) -> Order
+        requires { ⌜ Good self ⌝ }
+        ensures { λ r. ⌜ r ≡ waiting-in-order (view self) ⌝ }
+    {
+        let t = self.tables;
+        looks::waiting(t)
+    }
+
+    // A semaphore's value; 0 where there is no such semaphore.
+    pub fn semaphore(self, number: u8) -> u32
+        requires { ⌜ Good self ⌝ }
+        ensures { λ r. ⌜ r ≡ value number (view self) ⌝ }
+    {
+        let t = self.tables;
+        looks::semaphore(t, number)
+    }
+
+    // A customer's ceiling; 0 where there is no such customer.
+    pub fn ceiling(self, customer: u8) -> u16
+        requires { ⌜ Good self ⌝ }
+        ensures { λ r. ⌜ r ≡ ceiling customer (view self) ⌝ }
+    {
+        let t = self.tables;
+        looks::ceiling(t, customer)
+    }
+
+    // A customer's living, running, ready and waiting ones all counted.
+    pub fn living(self, customer: u8) -> usize
+        requires { ⌜ Good self ⌝ }
+        ensures { λ r. ⌜ r ≡ living-of customer (view self) ⌝ }
+    {
+        let t = self.tables;
+        looks::living(t, customer)
+    }
+
+    // The sum of the accepted gaps, idle time and ended time.
+    pub fn totals(self) -> Totals
+        requires { ⌜ Good self ⌝ }
+        ensures { λ r. ⌜ r ≡ sums (view self) ⌝ }
+    {
+        let t = self.tables;
+        looks::totals_of(t)
+    }
+
+    // Whether the machine runs on, "has halted or panicked".
+    pub fn status(self) -> Status
+        requires { ⌜ Good self ⌝ }
+        ensures { λ r. ⌜ r ≡ standing (view self .status) ⌝ }
+    {
+        let t = self.tables;
+        looks::status_of(t)
+    }
+
+    // The last clock reading: "that of the latest accepted event, or the start".
+    pub fn last(self) -> u32
+        requires { ⌜ Good self ⌝ }
+        ensures { λ r. ⌜ r ≡ view self .last ⌝ }
+    {
+        let t = self.tables;
+        t.last
+    }
+
+    // The id that the next newborn gets: "ids .. are never used again".
+    pub fn next_id(self) -> u32
+        requires { ⌜ Good self ⌝ }
+        ensures { λ r. ⌜ r ≡ view self .next ⌝ }
+    {
+        let t = self.tables;
+        t.next
+    }
+}

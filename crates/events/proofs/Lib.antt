@@ -1,0 +1,2 @@
+pub mod Eventful
+pub mod Ends

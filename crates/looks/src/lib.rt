@@ -1,0 +1,236 @@
+// What a host sees of a machine's tables. Nothing here changes them: tables are a value, and a look takes a copy.
+// Each promise is one equation for the result, for every argument: there is one result and no other. Slots and customers
+// are bytes, as in answers. Whether somebody is in a slot is told by the id (0 is nobody's) and by the place; the other
+// numbers are 0 where nobody is there.
+ghost use mathlib.Core.Path.{_≡_};
+ghost use Prim.Native.Nat.{_<_, _≤_};
+ghost use Rattle.rules.specs.Numbers.{base-slots};
+ghost use Rattle.rules.specs.Rules.{value};
+ghost use Rattle.rules.specs.Answers.{mask};
+ghost use Rattle.rules.specs.Machine.{living, living-of, ceiling};
+ghost use Rattle.tables.specs.Codes.{decode};
+ghost use Rattle.tables.specs.View.{view, Shape, Good};
+ghost use Rattle.looks.specs.Looks.{who-runs, place-at, row-at, readies-in-order, waiting-in-order, sums, standing};
+use kin::parent_of;
+use lines::living_of;
+use rules::CUSTOMERS;
+use rules::Line;
+use rules::Part;
+use rules::SEMAPHORES;
+use rules::SLOTS;
+use tables::CLOCK;
+use tables::FIRST_DEVICE;
+use tables::LAST_SEMAPHORE;
+use tables::Tables;
+
+// Where a process is: "nobody there", running, in the ready line, or in a waiting line.
+pub enum Place {
+    Nowhere,
+    Running,
+    Ready,
+    Waiting(Line),
+}
+
+// All that the tables have of the process in a slot: its id, the id of its parent (0 for id 1), its customer, its priority
+// ("kept, not used for order"), its support handle ("0 is none"), its time, and where it is.
+pub struct Row {
+    pub id: u32,
+    pub parent: u32,
+    pub customer: u8,
+    pub priority: u32,
+    pub handle: u32,
+    pub time: u64,
+    pub place: Place,
+}
+
+// Slots in the order in which they stand, and how many they are; the places behind are zero.
+pub struct Order {
+    pub slots: [u8; SLOTS],
+    pub count: usize,
+}
+
+// Whether a machine takes events: one that "has halted or panicked" refuses them all.
+pub enum Status {
+    On,
+    Halted,
+    Panicked,
+}
+
+// The sum of the accepted gaps, and the parts of it that no living process has.
+pub struct Totals {
+    pub gaps: u64,
+    pub idle: u64,
+    pub ended: u64,
+}
+
+// The line that a code stands for.
+fn line_of(code: u8) -> Line
+    requires { ⌜ 1 ≤ code ⌝ }
+    ensures { λ r. ⌜ r ≡ decode code ⌝ }
+{
+    if code <= LAST_SEMAPHORE {
+        let semaphore = code - 1;
+        return Line::Semaphore(semaphore as u32);
+    }
+    if code < CLOCK {
+        let device = code - FIRST_DEVICE;
+        return Line::Device(device as u32);
+    }
+    Line::PseudoClock
+}
+
+// The slot of whoever runs, or absent.
+pub fn running(t: Tables) -> Part
+    requires { ⌜ Good t ⌝ }
+    ensures { λ r. ⌜ r ≡ who-runs (view t) ⌝ }
+{
+    let at = t.running;
+    if SLOTS <= at {
+        return Part::Absent;
+    }
+    let slot = at as u8;
+    Part::Number(slot)
+}
+
+// The mask of the living, "bit n for slot n".
+pub fn alive(t: Tables) -> u64
+    requires { ⌜ Good t ⌝ }
+    ensures { λ r. ⌜ r ≡ mask (living (view t)) ⌝ }
+{
+    t.taken
+}
+
+// Where the process in a slot is: each of the living is in one place.
+fn place_of(t: Tables, slot: usize) -> Place
+    requires { ⌜ Shape t × (slot < base-slots) ⌝ }
+    ensures { λ r. ⌜ r ≡ place-at slot (view t) ⌝ }
+{
+    if t.running == slot {
+        return Place::Running;
+    }
+    let code = t.lines[slot];
+    if code == 0 {
+        if t.ids[slot] == 0 {
+            return Place::Nowhere;
+        }
+        return Place::Ready;
+    }
+    let l = line_of(code);
+    Place::Waiting(l)
+}
+
+// The whole row of the process in a slot.
+pub fn row_in(t: Tables, slot: u8) -> Row
+    requires { ⌜ Good t ⌝ }
+    ensures { λ r. ⌜ r ≡ row-at slot (view t) ⌝ }
+{
+    let s = slot as usize;
+    if SLOTS <= s {
+        return Row {
+            id: 0,
+            parent: 0,
+            customer: 0,
+            priority: 0,
+            handle: 0,
+            time: 0,
+            place: Place::Nowhere,
+        };
+    }
+    let parent = parent_of(&t.ids, &t.parents, s);
+    let place = place_of(t, s);
+    let id = t.ids[s];
+    let customer = t.customers[s];
+    let priority = t.priorities[s];
+    let handle = t.handles[s];
+    let time = t.times[s];
+    Row {
+        id: id,
+        parent: parent,
+        customer: customer,
+        priority: priority,
+        handle: handle,
+        time: time,
+        place: place,
+    }
+}
+
+// The ready line, first come first.
+pub fn ready(t: Tables) -> Order
+    requires { ⌜ Good t ⌝ }
+    ensures { λ r. ⌜ r ≡ readies-in-order (view t) ⌝ }
+{
+    let slots = t.ready;
+    Order {
+        slots: slots,
+        count: t.nready,
+    }
+}
+
+// All who wait, in the order in which they came; a row tells the line of each.
+pub fn waiting(t: Tables) -> Order
+    requires { ⌜ Good t ⌝ }
+    ensures { λ r. ⌜ r ≡ waiting-in-order (view t) ⌝ }
+{
+    let slots = t.waits;
+    Order {
+        slots: slots,
+        count: t.nwaits,
+    }
+}
+
+// A semaphore's value; 0 where there is no such semaphore.
+pub fn semaphore(t: Tables, number: u8) -> u32
+    requires { ⌜ Good t ⌝ }
+    ensures { λ r. ⌜ r ≡ value number (view t) ⌝ }
+{
+    let k = number as usize;
+    if SEMAPHORES <= k {
+        return 0;
+    }
+    t.sems[k]
+}
+
+// A customer's ceiling; 0 where there is no such customer.
+pub fn ceiling(t: Tables, customer: u8) -> u16
+    requires { ⌜ Good t ⌝ }
+    ensures { λ r. ⌜ r ≡ ceiling customer (view t) ⌝ }
+{
+    let k = customer as usize;
+    if CUSTOMERS <= k {
+        return 0;
+    }
+    t.ceilings[k]
+}
+
+// A customer's living, running, ready and waiting ones all counted.
+pub fn living(t: Tables, customer: u8) -> usize
+    requires { ⌜ Good t ⌝ }
+    ensures { λ r. ⌜ r ≡ living-of customer (view t) ⌝ }
+{
+    living_of(&t.ids, &t.customers, customer)
+}
+
+// The sum of the accepted gaps, idle time and ended time.
+pub fn totals_of(t: Tables) -> Totals
+    requires { ⌜ Good t ⌝ }
+    ensures { λ r. ⌜ r ≡ sums (view t) ⌝ }
+{
+    Totals {
+        gaps: t.total,
+        idle: t.idle,
+        ended: t.ended,
+    }
+}
+
+// Whether the machine runs on, "has halted or panicked".
+pub fn status_of(t: Tables) -> Status
+    requires { ⌜ Good t ⌝ }
+    ensures { λ r. ⌜ r ≡ standing (view t .status) ⌝ }
+{
+    let code = t.status;
+    match code {
+        0 => Status::On,
+        1 => Status::Halted,
+        _ => Status::Panicked,
+    }
+}

@@ -1,0 +1,123 @@
+-- A charge, over machines alone.
+-- Assumes nothing.
+use mathlib.Core.Path.{_≡_, sym, ap, ap₂, _∙_}
+use mathlib.Core.List.{List, [], _∷_, map}
+use Prim.Native.Nat.{ℕ, _+_, _-_, _*_, _%_, _^_, _<_, _≤_}
+use native.Mathlib.Omega.{arith}
+use native.Mathlib.Decide.{ℕ-discrete}
+use borrow.Author.Needs.{needs}
+use lib.ListN.{length, getD, set, length-set}
+use lib.Seq.{getD-set-same, getD-set-other}
+use Rattle.rules.specs.Words.{first}
+use Rattle.rules.specs.Numbers.{base-slots, time-limit}
+use Rattle.rules.specs.Machine as book
+use Rattle.rules.specs.Machine.{Process, Waiter, longer, gap, charge}
+use Rattle.lines.specs.Lines.{occ, one, entry, tally}
+use Rattle.lines.proofs.Occ.{one-same, one-other, tally-add, tally-same, tally-le, tally-at}
+use Rattle.lines.proofs.Bridge.{map-apart}
+use Rattle.tables.specs.declared.Tables.{Tables}
+use Rattle.tables.specs.Codes.{status-of}
+use Rattle.tables.specs.View.{row, waiter, occupant, readies, waiters, view, Shape}
+use Rattle.tables.specs.Contracts.{Step}
+use Rattle.tables.proofs.Seats.{Seat, occ-self, occ-seats, occupant-some, runner-seat, runs-one, runs-none}
+
+-- ---- sums by slot
+pub tally-longer : (ts : List ℕ) (r k n : ℕ) → r < length ts → r < n → tally (entry (set ts r (entry ts r + k))) n ≡ tally (entry ts) n + k
+tally-longer ts r k n long h =
+    tally-same (entry (set ts r (entry ts r + k))) (λ s. entry ts s + one r s * k) n (λ s b. go s (ℕ-discrete s r))
+    ∙ tally-add (entry ts) (λ s. one r s * k) n
+    ∙ ap (λ x. tally (entry ts) n + x) (tally-at (λ s. k) r n h)
+  where
+    go : (s : ℕ) → Dec (s ≡ r) → entry (set ts r (entry ts r + k)) s ≡ entry ts s + one r s * k
+    go s (yes e) = rw (e, getD-set-same ts r (entry ts r + k) 0 long, one-same r) (omega arith)
+    go s (no n) = rw (getD-set-other ts r s (entry ts r + k) 0 n, one-other r s (λ q. n (sym q))) (omega arith)
+
+pub tally-has : (ts : List ℕ) (r n : ℕ) → r < n → entry ts r ≤ tally (entry ts) n
+tally-has ts r n h = omega (arith, tally-at (entry ts) r n h, tally-le (λ s. one r s * entry ts s) (entry ts) n (λ s b. go s (ℕ-discrete s r)))
+  where
+    go : (s : ℕ) → Dec (s ≡ r) → one r s * entry ts s ≤ entry ts s
+    go s (yes e) = rw (e, one-same r) (omega arith)
+    go s (no k) = rw (one-other r s (λ q. k (sym q))) (omega arith)
+
+-- nobody's time is above all time
+pub time-within : (m : Tables) → Shape m → (s : ℕ) → s < base-slots → entry (m .times) s ≤ m .total
+time-within m g s h = omega (arith, g .spent, tally-has (m .times) s base-slots h)
+
+-- ---- the gap, wrapping at 32 bits
+pub gap-is : (m : Tables) (r now : ℕ) → r < 2 ^ 32 → now < 2 ^ 32 → m .last < 2 ^ 32 → (r + m .last) % 2 ^ 32 ≡ now → r ≡ gap now (view m)
+unfolding gap
+gap-is m r now a b c h = omega arith
+
+abbrev pub charged : Tables → ℕ → List ℕ → ℕ → Tables
+charged m now ts i = record { ids = m .ids; taken = m .taken; parents = m .parents; customers = m .customers; priorities = m .priorities; handles = m .handles; times = ts; lines = m .lines; ready = m .ready; nready = m .nready; waits = m .waits; nwaits = m .nwaits; running = m .running; sems = m .sems; ceilings = m .ceilings; next = m .next; status = m .status; last = now; total = m .total + gap now (view m); idle = i; ended = m .ended }
+
+module _ (m : Tables) (g : Shape m) (now : ℕ) (fits : m .total + gap now (view m) ≤ time-limit) where
+  abbrev k : ℕ
+  k = gap now (view m)
+
+  -- a machine of the rule book that is charged
+  abbrev with-charge : List Process → List Process → List Waiter → ℕ → book.Machine
+  with-charge r q w i = record { slots = base-slots; running = r; ready = q; waiting = w; sems = m .sems; ceilings = m .ceilings; next = m .next; status = status-of (m .status); last = now; total = m .total + k; idle = i; ended = m .ended }
+
+  pub charge-idle : base-slots ≤ m .running → Step (charge now) m (charged m now (m .times) (m .idle + k))
+  unfolding charge
+  charge-idle h =
+      let none : view m .running ≡ [] = runs-none m g h in
+      let sum : m .idle + k + m .ended + tally (entry (m .times)) base-slots ≡ m .total + k = omega (arith, g .spent) in
+      record {
+        seen = ap₂ (λ r i. with-charge r (view m .ready) (view m .waiting) i) (none ∙ sym (ap (map (longer k)) none)) (sym (ap (λ (l : List Process). m .idle + first l k (λ p. 0)) none));
+        shape = search needs;
+      }
+
+  module _ (h : m .running < base-slots) where
+    abbrev r : ℕ
+    r = m .running
+
+    abbrev ts : List ℕ
+    ts = set (m .times) r (getD (m .times) r 0 + k)
+
+    abbrev c : Tables
+    c = charged m now ts (m .idle)
+
+    timed : ℕ → Process → Process
+    timed v p = record { slot = p .slot; id = p .id; ancestors = p .ancestors; customer = p .customer; priority = p .priority; handle = p .handle; time = v }
+
+    waits-timed : ℕ → Waiter → Waiter
+    waits-timed v w = record { process = timed v (w .process); line = w .line }
+
+    p : Seat m r
+    p = runner-seat m g h
+
+    same : getD ts r 0 ≡ getD (m .times) r 0 + k
+    same = getD-set-same (m .times) r (getD (m .times) r 0 + k) 0 (omega (arith, g .times-long))
+
+    other : (x : ℕ) → (x ≡ r → ⊥) → getD ts x 0 ≡ getD (m .times) x 0
+    other x n = getD-set-other (m .times) r x (getD (m .times) r 0 + k) 0 n
+
+    elsewhere : (occ r (readies m) ≡ 0) × (occ r (waiters m) ≡ 0)
+    elsewhere =
+        let o = occ-seats m r in
+        let s : occ r (occupant r) ≡ 1 = ap (occ r) (occupant-some r h) ∙ occ-self r in
+        (omega (arith, p .once, o, s), omega (arith, p .once, o, s))
+
+    longer-row : map (row c) (occupant r) ≡ map (longer k) (view m .running)
+    unfolding timed
+    longer-row =
+        ap (map (row c)) (occupant-some r h)
+        ∙ ap (λ v. timed v (row m r) ∷ []) same
+        ∙ sym (ap (map (longer k)) (runs-one m g h))
+
+    pub charge-busy : Step (charge now) m c
+    unfolding charge timed waits-timed
+    charge-busy =
+        let ready : map (row c) (readies m) ≡ view m .ready = map-apart r (row c) (row m) (λ x n. ap (λ v. timed v (row m x)) (other x n)) (readies m) (elsewhere .0) in
+        let waits : map (waiter c) (waiters m) ≡ view m .waiting = map-apart r (waiter c) (waiter m) (λ x n. ap (λ v. waits-timed v (waiter m x)) (other x n)) (waiters m) (elsewhere .1) in
+        let long : length ts ≡ base-slots = simp length-set (g .times-long) in
+        let free : (x : ℕ) → x < base-slots → getD (m .ids) x 0 ≡ 0 → getD ts x 0 ≡ 0 =
+        λ x b z. other x (λ q. let y : ⊥ = omega (arith, p .alive, z, ap (λ v. getD (m .ids) v 0) q) in y) ∙ g .no-time x b z in
+        let sum : m .idle + m .ended + tally (entry ts) base-slots ≡ m .total + k = omega (arith, g .spent, tally-longer (m .times) r k base-slots (omega (arith, g .times-long)) h) in
+        let idle : m .idle ≡ m .idle + first (view m .running) k (λ p. 0) = omega (arith, ap (λ (l : List Process). first l k (λ p. 0)) (runs-one m g h)) in
+        record {
+          seen = (λ i. with-charge (longer-row i) (ready i) (waits i) (idle i));
+          shape = search needs;
+        }

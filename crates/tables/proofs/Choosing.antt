@@ -1,0 +1,100 @@
+-- Who runs next, over machines alone: the first in the ready line; halt, wait or panic; or whoever runs carries on.
+-- Assumes nothing.
+use mathlib.Core.Path.{_≡_, refl, sym, ap, _∙_}
+use mathlib.Core.List.{List, [], _∷_, map}
+use Prim.Native.Nat.{ℕ, _<_, _≤_}
+use native.Mathlib.Omega.{arith}
+use borrow.Author.Needs.{needs}
+use lib.ListN.{length, take}
+use Rattle.rules.specs.declared.Answer.{Answer}
+use Rattle.rules.specs.declared.Action.the-variants.{CarryOn, Run, Wait, Halt, Panic}
+use Rattle.rules.specs.Words.{first}
+use Rattle.rules.specs.Numbers.{base-slots}
+use Rattle.rules.specs.Machine as book
+use Rattle.rules.specs.Machine.{Process, living, dispatch}
+use Rattle.rules.specs.Answers.{Outcome, doing}
+use Rattle.rules.specs.Rules.{act, schedule, nobody-ready, carry-on, resume}
+use Rattle.lines.specs.Lines.{firstWhere}
+use Rattle.lines.specs.declared.Found.the-variants.{At, Nothing}
+use Rattle.lines.proofs.Bridge.{found-first, found-none, any-those, any-none}
+use Rattle.tables.specs.declared.Tables.{Tables}
+use Rattle.tables.specs.declared.Settled.{Settled}
+use Rattle.tables.specs.View.{row, waiters, seats, view, Shape}
+use Rattle.tables.specs.Contracts.{Step, Comes}
+use Rattle.tables.proofs.Seats.{seats-living, sizes, runs-one, runs-none, at-nucleus, nucleus-any}
+use Rattle.tables.proofs.Moves.{dispatched, dispatch-step, ready-first}
+
+abbrev pub put-status : ℕ → Tables → Tables
+put-status v m = record { ids = m .ids; taken = m .taken; parents = m .parents; customers = m .customers; priorities = m .priorities; handles = m .handles; times = m .times; lines = m .lines; ready = m .ready; nready = m .nready; waits = m .waits; nwaits = m .nwaits; running = m .running; sems = m .sems; ceilings = m .ceilings; next = m .next; status = v; last = m .last; total = m .total; idle = m .idle; ended = m .ended }
+
+-- the first of a list that is known
+pub first-known {ℓ κ} : {A : Type ℓ} {B : Type κ} (xs : List A) (y : A) (ys : List A) (none : B) (some : A → B) → xs ≡ y ∷ ys → first xs none some ≡ some y
+first-known xs y ys none some e = ap (λ l. first l none some) e
+
+pub first-empty {ℓ κ} : {A : Type ℓ} {B : Type κ} (xs : List A) (none : B) (some : A → B) → xs ≡ [] → first xs none some ≡ none
+first-empty xs none some e = ap (λ l. first l none some) e
+
+-- one outcome said by another
+pub comes-by : (o k : Outcome) (r : Settled) → o ≡ k → Comes k r → Comes o r
+comes-by o k r e h = record { seen = e ∙ h .seen; shape = h .shape }
+
+-- ---- nobody ready
+pub halt-comes : (x : Answer) (m : Tables) → Shape m → m .running ≡ base-slots → m .nready ≡ 0 → m .nwaits ≡ 0 → Comes (nobody-ready x (view m)) (record { tables = put-status 1 m; answer = doing Halt x })
+unfolding nobody-ready living
+halt-comes x m g r n w = record { seen = rw (r, n, w); shape = search needs }
+
+module _ (x : Answer) (m : Tables) (g : Shape m) (some : 0 < m .nwaits) where
+  some-living : {B : Type 0} (a b : B) → first (living (view m)) a (λ p. b) ≡ b
+  some-living a b = ap (λ (l : List Process). first l a (λ p. b)) (seats-living m) ∙ go (seats m) (omega (arith, sizes m g))
+    where
+      go : (l : List ℕ) → 0 < length l → first (map (row m) l) a (λ p. b) ≡ b
+      go [] k = absurd (omega arith)
+      go (y ∷ l) k = refl
+
+  pub wait-comes : (i : ℕ) → firstWhere (at-nucleus m) 0 (waiters m) ≡ At i → Comes (nobody-ready x (view m)) (record { tables = m; answer = doing Wait x })
+  unfolding nobody-ready
+  wait-comes i e = record {
+    seen = some-living _ _ ∙ rw (nucleus-any m g, any-those (at-nucleus m) (waiters m) _ _ (found-first (at-nucleus m) (waiters m) i e));
+    shape = g;
+  }
+
+  pub panic-comes : firstWhere (at-nucleus m) 0 (waiters m) ≡ Nothing → Comes (nobody-ready x (view m)) (record { tables = put-status 2 m; answer = doing Panic x })
+  unfolding nobody-ready
+  panic-comes e = record {
+    seen = some-living _ _ ∙ rw (nucleus-any m g, any-none (at-nucleus m) (waiters m) (found-none (at-nucleus m) (waiters m) 0 e));
+    shape = search needs;
+  }
+
+-- ---- schedule
+pub stuck : (x : Answer) (m : Tables) (r : Settled) → m .nready ≡ 0 → Comes (nobody-ready x (view m)) r → Comes (schedule x (view m)) r
+unfolding schedule
+stuck x m r n h = comes-by (schedule x (view m)) (nobody-ready x (view m)) r (first-empty (view m .ready) (nobody-ready x (view m)) _ (ap (λ k. map (row m) (take k (m .ready))) n)) h
+
+pub run-comes : (x : Answer) (m : Tables) (g : Shape m) (free : m .running ≡ base-slots) (some : 0 < m .nready)
+    → Comes (schedule x (view m)) (record { tables = dispatched m; answer = doing (Run (dispatched m .running)) x })
+unfolding schedule
+run-comes x m g free some =
+    let st : Step dispatch m (dispatched m) = dispatch-step m g free some in
+    record {
+      seen =
+          first-known (view m .ready) (row m (dispatched m .running)) (view (dispatched m) .ready) (nobody-ready x (view m)) (λ p. act (Run (p .slot)) x (dispatch (view m))) (ap (map (row m)) (ready-first m g free some))
+          ∙ ap (act (Run (dispatched m .running)) x) (sym (st .seen));
+      shape = st .shape;
+    }
+
+-- ---- carry on
+pub carry-comes : (x : Answer) (m : Tables) → Shape m → Comes (carry-on (row m (m .running)) x (view m)) (record { tables = m; answer = doing (CarryOn (m .running)) x })
+unfolding carry-on
+carry-comes x m g = record { seen = refl; shape = g }
+
+pub resumed : (x : Answer) (m : Tables) (g : Shape m) (r : Settled) → m .running < base-slots → Comes (carry-on (row m (m .running)) x (view m)) r → Comes (resume x (view m)) r
+unfolding resume
+resumed x m g r h k = comes-by (resume x (view m)) _ r (first-known (view m .running) (row m (m .running)) [] _ _ (runs-one m g h)) k
+
+pub idle-resumed : (x : Answer) (m : Tables) (g : Shape m) (r : Settled) → base-slots ≤ m .running → Comes (schedule x (view m)) r → Comes (resume x (view m)) r
+unfolding resume
+idle-resumed x m g r h k = comes-by (resume x (view m)) _ r (first-empty (view m .running) _ _ (runs-none m g h)) k
+
+-- a step, then schedule
+pub then-schedule : (f : book.Machine → book.Machine) (x : Answer) (m b : Tables) (r : Settled) → Step f m b → Comes (schedule x (view b)) r → Comes (schedule x (f (view m))) r
+then-schedule f x m b r s h = comes-by (schedule x (f (view m))) (schedule x (view b)) r (ap (schedule x) (sym (s .seen))) h

@@ -1,0 +1,97 @@
+// "Schedule: first in the ready line runs. If the line is empty: nobody alive, halt; someone waiting on a nucleus line,
+// wait; otherwise panic."
+ghost use mathlib.Core.Path.{_≡_};
+ghost use Prim.Native.Nat.{_<_};
+ghost use Rattle.rules.specs.Numbers.{base-slots};
+ghost use Rattle.rules.specs.Rules.{schedule, nobody-ready, carry-on, resume};
+ghost use Rattle.tables.specs.View.{view, row, Shape};
+ghost use Rattle.tables.specs.Contracts.{Comes};
+use crate::CLOCK;
+use crate::FIRST_DEVICE;
+use crate::HALTED;
+use crate::PANICKED;
+use crate::Settled;
+use crate::Tables;
+use answers::does;
+use lines::Found;
+use lines::find_between;
+use lines::remove_at;
+use rules::Action;
+use rules::Answer;
+use rules::SLOTS;
+
+impl Tables {
+    // Nobody is ready, and nobody runs.
+    fn nobody_ready(mut self, x: Answer) -> Settled
+        requires { ⌜ Shape self × (self .running ≡ base-slots) × (self .nready ≡ 0) ⌝ }
+        ensures { λ r. ⌜ Comes (nobody-ready x (view self)) r ⌝ }
+    {
+        let n = self.nwaits;
+        if n == 0 {
+            self.status = HALTED;
+            let halt = does(Action::Halt, x);
+            return Settled {
+                tables: self,
+                answer: halt,
+            };
+        }
+        let Found::At(_) = find_between(&self.waits, n, &self.lines, FIRST_DEVICE, CLOCK) else {
+            self.status = PANICKED;
+            let panic = does(Action::Panic, x);
+            return Settled {
+                tables: self,
+                answer: panic,
+            };
+        };
+        let wait = does(Action::Wait, x);
+        Settled {
+            tables: self,
+            answer: wait,
+        }
+    }
+
+    // The caller has put whoever ran elsewhere.
+    pub fn schedule(mut self, x: Answer) -> Settled
+        requires { ⌜ Shape self × (self .running ≡ base-slots) ⌝ }
+        ensures { λ r. ⌜ Comes (schedule x (view self)) r ⌝ }
+    {
+        let n = self.nready;
+        if n == 0 {
+            return self.nobody_ready(x);
+        }
+        let slot = self.ready[0];
+        remove_at(&mut self.ready, n, 0);
+        self.nready = n - 1;
+        self.running = slot as usize;
+        let run = does(Action::Run(slot), x);
+        Settled {
+            tables: self,
+            answer: run,
+        }
+    }
+
+    // "Caller carries on."
+    pub fn carries_on(self, x: Answer) -> Settled
+        requires { ⌜ Shape self × (self .running < base-slots) ⌝ }
+        ensures { λ r. ⌜ Comes (carry-on (row self (self .running)) x (view self)) r ⌝ }
+    {
+        let at = self.running;
+        let on = does(Action::CarryOn(at as u8), x);
+        Settled {
+            tables: self,
+            answer: on,
+        }
+    }
+
+    // "The running process carries on; with nobody running, schedule."
+    pub fn resume(self, x: Answer) -> Settled
+        requires { ⌜ Shape self ⌝ }
+        ensures { λ r. ⌜ Comes (resume x (view self)) r ⌝ }
+    {
+        let at = self.running;
+        if at < SLOTS {
+            return self.carries_on(x);
+        }
+        self.schedule(x)
+    }
+}
