@@ -6,3 +6,5 @@ pub mod Blocks
 pub mod Unique
 pub mod Remains
 pub mod Whole
+-- Document 01's whole example and other whole logs, proved by computing:
+pub mod Examples

@@ -1,8 +1,5 @@
--- What the program writes of a log.
--- To be believed, read in this order:
+-- What the program writes of a log. To be believed, read in this order:
 pub mod Text
 pub mod Turns
 pub mod Promises
 pub mod Walks
--- Document 01's whole example, proved by computing:
-pub mod Examples
