@@ -66,8 +66,7 @@ fn create(mut t: Tables, a2: u32, a3: u32) -> Settled
     };
     let slot = s as u8;
     let n = t.nready;
-    push(&mut t.ready, n, slot);
-    t.nready = n + 1;
+    t.nready = push(&mut t.ready, n, slot);
     t.ids[s] = id;
     t.taken = t.taken + power(s);
     t.parents[s] = at as u8 + 1;

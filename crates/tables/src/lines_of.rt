@@ -31,8 +31,7 @@ impl Tables {
     {
         let at = self.running;
         let n = self.nready;
-        push(&mut self.ready, n, at as u8);
-        self.nready = n + 1;
+        self.nready = push(&mut self.ready, n, at as u8);
         self.running = SLOTS;
         self.schedule(x)
     }
@@ -44,8 +43,7 @@ impl Tables {
     {
         let at = self.running;
         let n = self.nwaits;
-        push(&mut self.waits, n, at as u8);
-        self.nwaits = n + 1;
+        self.nwaits = push(&mut self.waits, n, at as u8);
         self.lines[at] = code;
         self.running = SLOTS;
         self.schedule(x)
@@ -69,8 +67,7 @@ impl Tables {
         self.nwaits = w - 1;
         self.lines[s] = 0;
         let n = self.nready;
-        push(&mut self.ready, n, slot);
-        self.nready = n + 1;
+        self.nready = push(&mut self.ready, n, slot);
         let bit = power(s);
         Woken {
             tables: self,

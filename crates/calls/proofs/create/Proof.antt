@@ -182,9 +182,6 @@ push-requires c κs =
     let st = start at-at-ceiling in
     omega (arith, room-beside (st .args .t1) (st .pre .0) (st .pre .1))
 
-add-t : tie.Need-add-t
-add-t c = search needs
-
 mul-t : tie.Need-mul-t
 mul-t c =
     let at-known-told = before-push c in
@@ -200,8 +197,8 @@ power-requires c κs =
     let at-known-told = before-push c in
     omega (arith, slot at-known-told)
 
-add-t-2 : tie.Need-add-t-2
-add-t-2 c =
+add-t : tie.Need-add-t
+add-t c =
     let at-push = before-power c in
     let at-known-told = before-push at-push in
     let k = at-known-told in
@@ -216,8 +213,8 @@ add-t-2 c =
 cast-t : tie.Need-cast-t
 cast-t c = search needs
 
-add-t-3 : tie.Need-add-t-3
-add-t-3 c = search needs
+add-t-2 : tie.Need-add-t-2
+add-t-2 c = search needs
 
 element-write-t-2 : tie.Need-element-write-t-2
 element-write-t-2 c =
@@ -264,8 +261,8 @@ element-write-t-5 c =
     let at-known-told = before-push at-push in
     slot at-known-told
 
-add-t-4 : tie.Need-add-t-4
-add-t-4 c = search needs
+add-t-3 : tie.Need-add-t-3
+add-t-3 c = search needs
 
 cast-says : tie.Need-cast-says
 cast-says c = search needs
@@ -281,7 +278,7 @@ carries-on-requires c κs =
     let k = c .before .before .before .before .before in
     let at = k .before .before .before .before .before in
     let st = start at in
-    rw (c .before .before .before .push .ensures, c .before .before .power .ensures, at .before .before .before .before .before .child-of .ensures)
+    rw (c .before .before .before .push .ensures .0, c .before .before .before .push .ensures .1, c .before .before .power .ensures, at .before .before .before .before .before .child-of .ensures)
     (create-shape (st .args .t1) (st .pre .0) (st .args .a2) (st .args .a3) (st .pre .1) (k .before .s .given .0 .0) (found k), st .pre .1)
 
 returns-4 : tie.Need-returns-4
@@ -291,7 +288,7 @@ returns-4 c =
     let at = e .before in
     let st = start at in
     rw (create-born (st .args .t1) (st .pre .0) (st .args .a2) (st .args .a3) (below e) (at .before .before .before .before .before .before .before .if1 .left) (st .pre .1) (k .before .s .given .0 .0) (found k))
-    (rw (c .before .bears .ensures, c .before .before .says .ensures, c .before .before .before .power .ensures, c .before .before .before .before .push .ensures, at .before .before .before .before .before .child-of .ensures) at
+    (rw (c .before .bears .ensures, c .before .before .says .ensures, c .before .before .before .power .ensures, c .before .before .before .before .push .ensures .0, c .before .before .before .before .push .ensures .1, at .before .before .before .before .before .child-of .ensures) at
     (c .carries-on .ensures))
 
 pub create-spec : {M : Type 1} → statement M
@@ -312,13 +309,12 @@ create-spec =
     returns-3
     cast-slot
     push-requires
-    add-t
     mul-t
     element-write-t
     power-requires
-    add-t-2
+    add-t
     cast-t
-    add-t-3
+    add-t-2
     element-write-t-2
     cast-t-2
     element-write-t-3
@@ -326,7 +322,7 @@ create-spec =
     element-write-t-4
     mul-t-3
     element-write-t-5
-    add-t-4
+    add-t-3
     cast-says
     says-requires
     bears-requires

@@ -92,15 +92,6 @@ push-requires c κs =
     let st = before-find-between at-find-between in
     wake-room (st .args .t1) (st .pre .0) (st .args .code) (st .pre .1) (st .pre .2) _ (sym (at-find-between .find-between .ensures) ∙ at-i .i .given .1)
 
-add-self : tie.Need-add-self
-add-self c =
-    let at-remove-at = before-push c in
-    let at-i = before-remove-at at-remove-at in
-    let at-find-between = before-i at-i in
-    let st = before-find-between at-find-between in
-    let h = wake-room (st .args .t1) (st .pre .0) (st .args .code) (st .pre .1) (st .pre .2) _ (sym (at-find-between .find-between .ensures) ∙ at-i .i .given .1) in
-    omega arith
-
 power-requires : tie.Need-power-requires
 power-requires c κs =
     let at-remove-at = before-push c in
@@ -114,7 +105,7 @@ returns-2 c =
     let at-i = c .before .before .before .before .before .before .before in
     let at-find-between = before-i at-i in
     let st = before-find-between at-find-between in
-    rw (c .power .ensures, c .before .push .ensures, c .before .before .before .remove-at .ensures)
+    rw (c .power .ensures, c .before .push .ensures .0, c .before .push .ensures .1, c .before .before .before .remove-at .ensures)
     (wake-some (st .args .t1) (st .pre .0) (st .args .code) (st .pre .1) (st .pre .2) (at-i .i .given .0 .0) (sym (at-find-between .find-between .ensures) ∙ at-i .i .given .1))
 
 pub wake-spec : {M : Type 1} → statement M
@@ -131,6 +122,5 @@ wake-spec =
     sub-self
     element-write-self
     push-requires
-    add-self
     power-requires
     returns-2)
