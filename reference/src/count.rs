@@ -29,7 +29,7 @@ const NAMES: &[(&str, &[&str])] = &[
     ("call", &["-1", "-2", "-3", "-4", "-5", "-6", "-7", "-8", "-9", "-10"]),
     ("call", &["0", "1 or more", "below -10", "-2147483648", "in user mode"]),
     ("clock", &["stands still", "gap 2147483647", "gap 2147483648", "wraps"]),
-    ("create", &["with handle", "without handle", "in a slot again", "the twentieth"]),
+    ("create", &["with handle", "without handle", "in a slot again", "in the last slot"]),
     ("create", &["customer 0 for itself", "customer 0 for another", "another, whatever a2 says"]),
     ("create", &["another, though a2 / 256 is above 8", "beside a customer at its ceiling"]),
     ("create", &["the last place", "a place given back"]),
@@ -40,7 +40,7 @@ const NAMES: &[(&str, &[&str])] = &[
     ("interrupt", &["no byte", "several bits", "wanted", "unwanted", "nobody running"]),
     ("interrupt", &["receipt first", "wait again"]),
     ("log", &["whole", "20", "21", "22", "23", "24", "25", "26", "27"]),
-    ("start", &["customer 0 alone", "sum of 20", "sum below 20", "24 and not 27"]),
+    ("start", &["customer 0 alone", "sum of all slots", "sum below that", "24 and not 27"]),
     ("start", &["27 for ceiling 0", "27 for the sum", "27 for a sum that wraps"]),
     ("refusal", &["0", "1", "2", "4", "5", "6"]),
     ("P", &["through", "waits", "odd number"]),
@@ -59,6 +59,8 @@ const NAMES: &[(&str, &[&str])] = &[
     ("named by another", &["an ancestor of customer 0", "another of customer 0", "another customer's"]),
     ("tick", &["for nobody", "for one", "for several"]),
     ("death", &["alone", "with descendants"]),
+    ("table", &["the last slot woken", "the last slot ended", "more than 20 woken", "more than 20 ended"]),
+    ("table", &["all slots taken", "a newborn with more than 20 ancestors"]),
 ];
 
 /// A count for each name, those that never came up too.
@@ -136,8 +138,8 @@ impl Count {
             Some(Reason::BadCeilings) => self.add("start", "27 for the sum"),
             _ if bad => {}
             _ if sum == usize::from(start.ceilings[0]) => self.add("start", "customer 0 alone"),
-            _ if sum == SLOTS => self.add("start", "sum of 20"),
-            _ => self.add("start", "sum below 20"),
+            _ if sum == SLOTS => self.add("start", "sum of all slots"),
+            _ => self.add("start", "sum below that"),
         }
     }
 
@@ -165,6 +167,31 @@ impl Count {
             1 if !terminate => self.add("death", "alone"),
             2.. if !terminate => self.add("death", "with descendants"),
             _ => {}
+        }
+        self.table(before, answer);
+    }
+
+    /// What a small table, or a mask with fewer bits, would not show.
+    fn table(&mut self, before: &Desk, answer: &Answer) {
+        for (mask, last, many) in [
+            (answer.woken, "the last slot woken", "more than 20 woken"),
+            (answer.ended, "the last slot ended", "more than 20 ended"),
+        ] {
+            if mask >> (SLOTS - 1) & 1 == 1 {
+                self.add("table", last);
+            }
+            if mask.count_ones() > 20 {
+                self.add("table", many);
+            }
+        }
+        let Some(caller) = before.running.filter(|_| answer.newborn.is_some()) else {
+            return;
+        };
+        if before.alive() == SLOTS - 1 {
+            self.add("table", "all slots taken");
+        }
+        if before.descent(before.process(caller)).count() > 20 {
+            self.add("table", "a newborn with more than 20 ancestors");
         }
     }
 
@@ -236,8 +263,8 @@ impl Count {
         if answer.result != Some(slot as i64 + 1) {
             self.add("create", "in a slot again");
         }
-        if before.alive() == SLOTS - 1 {
-            self.add("create", "the twentieth");
+        if slot == SLOTS - 1 {
+            self.add("create", "in the last slot");
         }
         match (own, customer) {
             (0, 0) => self.add("create", "customer 0 for itself"),
@@ -374,75 +401,81 @@ fn is_spared(before: &Desk, event: &Event, answer: &Answer) -> Option<usize> {
 mod tests {
     use super::*;
 
-    /// `generate --count 1..400` prints these and more: 113,142 events in 400 logs.
+    /// `generate --count 1..400` prints these and more: 112,647 events in 400 logs.
     const AT_THE_GATE: &[(&str, u64)] = &[
-        ("refusal: 0", 85_217),
-        ("refusal: 1", 13_694),
-        ("refusal: 2", 6_651),
-        ("refusal: 4", 3_843),
-        ("refusal: 5", 2_162),
-        ("refusal: 6", 1_575),
-        ("action: on", 46_838),
-        ("action: run", 23_716),
-        ("action: wait", 7_595),
-        ("action: halt", 29),
-        ("action: panic", 25),
-        ("action: up0", 968),
-        ("action: up1", 6_046),
-        ("terminate: another, others ready", 1_098),
-        ("terminate: another, nobody else ready", 431),
-        ("terminate: the killer's turn", 844),
-        ("terminate: hands off, others ready", 1_100),
-        ("terminate: hands off, nobody else ready", 714),
-        ("terminate: the spared one's turn", 575),
-        ("named by customer 0: itself", 292),
-        ("named by customer 0: a child", 540),
-        ("named by customer 0: a deeper descendant", 162),
-        ("named by customer 0: an ancestor", 89),
-        ("named by customer 0: a sibling", 174),
-        ("named by customer 0: a cousin", 156),
-        ("named by customer 0: another customer's", 94),
-        ("named by another: itself", 536),
-        ("named by another: a child", 353),
-        ("named by another: a deeper descendant", 50),
-        ("named by another: an ancestor", 373),
-        ("named by another: an ancestor of customer 0", 400),
-        ("named by another: a sibling", 309),
-        ("named by another: a cousin", 286),
-        ("named by another: another of customer 0", 139),
-        ("named by another: another customer's", 307),
-        ("create: customer 0 for itself", 3_438),
-        ("create: customer 0 for another", 1_683),
-        ("create: another, whatever a2 says", 2_608),
-        ("create: another, though a2 / 256 is above 8", 241),
-        ("create: beside a customer at its ceiling", 1_943),
-        ("create: the last place", 1_938),
-        ("create: a place given back", 1_101),
-        ("create: the twentieth", 429),
-        ("denied: customer 0 for itself", 1_515),
-        ("denied: customer 0 for another", 928),
-        ("denied: another for itself", 5_831),
-        ("denied: ceiling 0", 346),
-        ("denied: 9 to 255 named", 172),
-        ("denied: 256 or more named", 356),
-        ("denied: slots free", 6_796),
-        ("denied: no slot free", 1_824),
-        ("start: customer 0 alone", 62),
-        ("start: sum of 20", 206),
-        ("start: sum below 20", 41),
-        ("start: 24 and not 27", 13),
+        ("refusal: 0", 89_489),
+        ("refusal: 1", 11_173),
+        ("refusal: 2", 7_538),
+        ("refusal: 4", 1_378),
+        ("refusal: 5", 1_980),
+        ("refusal: 6", 1_089),
+        ("action: on", 50_136),
+        ("action: run", 30_992),
+        ("action: wait", 2_499),
+        ("action: halt", 22),
+        ("action: panic", 10),
+        ("action: up0", 825),
+        ("action: up1", 5_005),
+        ("terminate: another, others ready", 970),
+        ("terminate: another, nobody else ready", 222),
+        ("terminate: the killer's turn", 556),
+        ("terminate: hands off, others ready", 1_567),
+        ("terminate: hands off, nobody else ready", 193),
+        ("terminate: the spared one's turn", 416),
+        ("named by customer 0: itself", 213),
+        ("named by customer 0: a child", 316),
+        ("named by customer 0: a deeper descendant", 109),
+        ("named by customer 0: an ancestor", 74),
+        ("named by customer 0: a sibling", 175),
+        ("named by customer 0: a cousin", 129),
+        ("named by customer 0: another customer's", 102),
+        ("named by another: itself", 510),
+        ("named by another: a child", 307),
+        ("named by another: a deeper descendant", 54),
+        ("named by another: an ancestor", 291),
+        ("named by another: an ancestor of customer 0", 225),
+        ("named by another: a sibling", 409),
+        ("named by another: a cousin", 453),
+        ("named by another: another of customer 0", 118),
+        ("named by another: another customer's", 264),
+        ("create: customer 0 for itself", 8_315),
+        ("create: customer 0 for another", 3_484),
+        ("create: another, whatever a2 says", 4_896),
+        ("create: another, though a2 / 256 is above 8", 306),
+        ("create: beside a customer at its ceiling", 3_971),
+        ("create: the last place", 1_761),
+        ("create: a place given back", 1_025),
+        ("create: in the last slot", 115),
+        ("denied: customer 0 for itself", 1_727),
+        ("denied: customer 0 for another", 904),
+        ("denied: another for itself", 4_977),
+        ("denied: ceiling 0", 333),
+        ("denied: 9 to 255 named", 151),
+        ("denied: 256 or more named", 261),
+        ("denied: slots free", 5_706),
+        ("denied: no slot free", 2_235),
+        ("table: a newborn with more than 20 ancestors", 867),
+        ("table: all slots taken", 393),
+        ("table: more than 20 ended", 78),
+        ("table: more than 20 woken", 12),
+        ("table: the last slot ended", 45),
+        ("table: the last slot woken", 14),
+        ("start: customer 0 alone", 77),
+        ("start: sum of all slots", 183),
+        ("start: sum below that", 49),
+        ("start: 24 and not 27", 11),
         ("start: 27 for ceiling 0", 4),
-        ("start: 27 for the sum", 15),
-        ("start: 27 for a sum that wraps", 6),
+        ("start: 27 for the sum", 13),
+        ("start: 27 for a sum that wraps", 11),
         ("log: whole", 209),
         ("log: 20", 19),
-        ("log: 21", 16),
+        ("log: 21", 14),
         ("log: 22", 38),
-        ("log: 23", 37),
-        ("log: 24", 25),
-        ("log: 25", 11),
+        ("log: 23", 36),
+        ("log: 24", 23),
+        ("log: 25", 13),
         ("log: 26", 20),
-        ("log: 27", 25),
+        ("log: 27", 28),
     ];
 
     #[test]
@@ -466,7 +499,8 @@ mod tests {
         }
         let mut count = Count::default();
         count.log(log::open_stream(&stream));
-        for (name, times) in count.rows() {
+        // Whether families grow deep in a stream is left to chance.
+        for (name, times) in count.rows().filter(|(name, _)| !name.starts_with("table: ")) {
             let ends = ["action: halt", "action: panic", "refusal: 1"].contains(&name);
             let never = ends || name.starts_with("log: 2") || name.starts_with("start: ");
             assert_eq!(times == 0, never, "{name} came up {times} times");

@@ -1,6 +1,6 @@
 //! Damaged logs, so that every log refusal comes up.
 
-use crate::desk::{CUSTOMERS, SEMAPHORES};
+use crate::desk::{CUSTOMERS, SEMAPHORES, SLOTS};
 use crate::generate;
 use crate::log::{value_length, HEAD, MAX_BYTES};
 use crate::rng::Rng;
@@ -91,8 +91,9 @@ fn old_start(bytes: &mut Vec<u8>) {
     }
 }
 
-/// Ceilings that are refused: none for customer 0, a sum of 21, one that is 20 or less only where
-/// it wraps at 16 bits, a single high byte. One in six has a value too large as well.
+/// Ceilings that are refused: none for customer 0, one more than there are slots, a sum that is no
+/// more only where it wraps at 16 bits or in a byte, a single high byte. One in six has a value too
+/// large as well.
 fn bad_ceilings(rng: &mut Rng, bytes: &mut [u8]) {
     let Some(field) = bytes.get_mut(CEILINGS..START) else {
         return;
@@ -101,11 +102,12 @@ fn bad_ceilings(rng: &mut Rng, bytes: &mut [u8]) {
         std::array::from_fn(|customer| u16::from_le_bytes([field[2 * customer], field[2 * customer + 1]]));
     let sum: u32 = ceilings.iter().map(|&ceiling| u32::from(ceiling)).sum();
     let customer = rng.index(CUSTOMERS);
-    match rng.below(5) {
+    match rng.below(6) {
         0 => ceilings[0] = 0,
-        1 => ceilings[customer] += 21u32.saturating_sub(sum) as u16,
-        2 => ceilings = [1, u16::MAX, 1, 0, 0, 0, 0, 0, rng.below(19) as u16],
-        3 => ceilings = [1 << 15, 0, 0, 1 << 15, 0, 0, 0, 0, rng.below(20) as u16],
+        1 => ceilings[customer] += (SLOTS as u32 + 1).saturating_sub(sum) as u16,
+        2 => ceilings = [1, u16::MAX, 1, 0, 0, 0, 0, 0, rng.below(SLOTS as u32 - 1) as u16],
+        3 => ceilings = [1 << 15, 0, 0, 1 << 15, 0, 0, 0, 0, rng.below(SLOTS as u32) as u16],
+        4 => ceilings = [1, 85, 85, 85, 0, 0, 0, 0, rng.below(SLOTS as u32) as u16],
         _ => ceilings[customer] |= 256,
     }
     field.copy_from_slice(&ceilings.map(u16::to_le_bytes).concat());

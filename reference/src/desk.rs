@@ -2,7 +2,7 @@
 
 use std::collections::VecDeque;
 
-pub const SLOTS: usize = 20;
+pub const SLOTS: usize = 64;
 pub const SEMAPHORES: usize = 32;
 pub const SUB_DEVICES: usize = 48;
 pub const CUSTOMERS: usize = 9;
@@ -166,7 +166,7 @@ impl Desk {
     ) -> Result<Self, StartRefusal> {
         allow(&values, &ceilings)?;
         let mut desk = Desk {
-            slots: Default::default(),
+            slots: std::array::from_fn(|_| None),
             ceilings,
             running: Some(0),
             ready: VecDeque::new(),
@@ -489,7 +489,8 @@ impl Desk {
     }
 }
 
-/// "ceiling 0 is at least 1, and they may not sum above 20, else refusal 27 after 24"
+/// "ceiling 0 is at least 1, and they may not sum above 20, else refusal 27 after 24"; now
+/// "ceilings may sum to 64"
 pub fn allow(values: &[u32; SEMAPHORES], ceilings: &[u16; CUSTOMERS]) -> Result<(), StartRefusal> {
     let sum: usize = ceilings.iter().map(|&ceiling| usize::from(ceiling)).sum();
     if values.iter().any(|&value| value > VALUE_MAX) {

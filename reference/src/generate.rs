@@ -36,6 +36,13 @@ const MIX: [(Topic, u32, u32); 20] = [
     (Generator::odd_code, 2, 2),
 ];
 
+/// How a family fills the table: all of them children of one, or each the child of the one before.
+#[derive(Clone, Copy, PartialEq, Eq)]
+enum Family {
+    Broad,
+    Deep,
+}
+
 /// The events of a log or a stream, without end, after `start`.
 pub struct Generator {
     pub start: Start,
@@ -52,6 +59,8 @@ pub struct Generator {
     turns: usize,
     /// Creates follow that name this customer, until one is denied.
     flood: Option<u32>,
+    /// The table fills with one family, until nobody has room.
+    family: Option<Family>,
 }
 
 /// The log of a seed: `count` events, or as many as 65,536 bytes hold.
@@ -88,11 +97,13 @@ impl Generator {
             1 => ceilings(rng, fewer),
             _ => ceilings(rng, SLOTS),
         };
+        // One log in three begins with a table that fills: without it 64 slots seldom are taken.
+        generator.family = rng.pick(&[None, None, None, None, Some(Family::Broad), Some(Family::Deep)]);
         generator.desk = generator.start.desk();
         generator
     }
 
-    /// A recorded stream: its machine never ends.
+    /// A recorded stream: its machine never ends, and its table is full at first.
     pub fn stream(seed: u64) -> Self {
         let mut rng = Rng::new(seed);
         let first = rng.below(SEMAPHORES as u32);
@@ -118,6 +129,7 @@ impl Generator {
             careful: usize::MAX,
             turns: 0,
             flood: None,
+            family: Some(Family::Broad),
         }
     }
 
@@ -158,6 +170,9 @@ impl Generator {
     }
 
     fn topic(&mut self) -> Topic {
+        if let Some(topic) = self.growth() {
+            return topic;
+        }
         let idle = self.desk.running.is_none() && !self.desk.over;
         if idle && !self.rng.one_in(if self.stream { 500 } else { 4 }) {
             return if self.rng.one_in(4) { Generator::tick } else { Generator::device };
@@ -183,6 +198,43 @@ impl Generator {
             place -= often;
         }
         unreachable!("the place is below the sum")
+    }
+
+    /// What lets the family grow, one event in sixteen aside. In a deep one whoever has a child waits,
+    /// so that the child runs.
+    fn growth(&mut self) -> Option<Topic> {
+        let family = self.family?;
+        let caller = self.desk.running.map(|slot| self.desk.process(slot))?;
+        let childless = self.desk.living().all(|process| process.parent != caller.id);
+        if self.roomy().is_empty() {
+            self.family = None;
+            return None;
+        }
+        if self.rng.one_in(16) {
+            return None;
+        }
+        if family == Family::Broad || childless {
+            return Some(Generator::kin);
+        }
+        Some(self.rng.pick(&[
+            |g: &mut Generator| g.kernel(-7, Generator::few),
+            |g: &mut Generator| g.kernel(-5, Generator::io_device),
+        ]))
+    }
+
+    /// The customers that the caller may get a child of.
+    fn roomy(&self) -> Vec<u32> {
+        let own = self.desk.running.map_or(0, |slot| self.desk.process(slot).customer);
+        let may_name = |&customer: &usize| own == 0 || customer == own;
+        let roomy = (0..CUSTOMERS).filter(may_name).filter(|&customer| !self.desk.at_ceiling(customer));
+        roomy.map(|customer| customer as u32).collect()
+    }
+
+    /// A create that is granted: for customer 0 where it can be, since only that names others.
+    fn kin(&mut self) -> Kind {
+        let a1 = self.few();
+        let named = self.roomy().first().copied().unwrap_or(0);
+        self.call_with(Mode::Kernel, -1, a1, named * 256)
     }
 
     /// Whether the caller has no child yet, and room for one: so families grow deep.

@@ -26,32 +26,39 @@ kernel 1300 -6
     );
 }
 
-// "they may not sum above 20": the table is full where each customer is at its ceiling
+// "ceilings may sum to 64": the table is full where each customer is at its ceiling
 fn all_places() {
     play::play(
-        b"# all 20 places, among nine customers: the twentieth is granted, and nobody more
+        b"# all 64 places, among nine customers, each to its last place: the sixty-fourth is granted, and nobody more
 start 1000
-ceilings 4 2 2 2 2 2 2 2 2
+ceilings 8 7 7 7 7 7 7 7 7
 kernel 1100 -1 0 0
-again 2
+again 6
 kernel 1200 -1 0 256
-again 1
+again 6
 kernel 1300 -1 0 512
-again 1
+again 6
 kernel 1400 -1 0 768
-again 1
+again 6
 kernel 1500 -1 0 1024
-again 1
+again 6
 kernel 1600 -1 0 1280
-again 1
+again 6
 kernel 1700 -1 0 1536
-again 1
+again 6
 kernel 1800 -1 0 1792
-again 1
+again 6
 kernel 1900 -1 0 2048
-again 1
+again 6
 kernel 2000 -1 0 0
-kernel 2100 -1 0 2048
+kernel 2100 -1 0 256
+kernel 2200 -1 0 512
+kernel 2300 -1 0 768
+kernel 2400 -1 0 1024
+kernel 2500 -1 0 1280
+kernel 2600 -1 0 1536
+kernel 2700 -1 0 1792
+kernel 2800 -1 0 2048
 
 ",
     );

@@ -105,7 +105,7 @@ drop 2
     );
 }
 
-// "ceiling 0 is at least 1"; "they may not sum above 20": the plain sum
+// "ceiling 0 is at least 1"; "they may not sum above 20", with (v) "may sum to 64": the plain sum
 fn first_ceilings() {
     play::play(
         b"# 27: ceiling 0 is 0
@@ -113,9 +113,19 @@ start 1000
 ceilings 0 20
 kernel 1100 -6
 
-# 27: the ceilings sum to 21
+# 27: the ceilings sum to 65
 start 1000
-ceilings 1 0 0 0 0 0 0 0 20
+ceilings 1 0 0 0 0 0 0 0 64
+kernel 1100 -6
+
+# 27: nine ceilings that sum to 65
+start 1000
+ceilings 8 7 7 7 7 7 7 7 8
+kernel 1100 -6
+
+# 27: customer 0 has 65
+start 1000
+ceilings 65
 kernel 1100 -6
 
 # 27: ceiling 8 is 256
@@ -126,18 +136,22 @@ ceilings 1 0 0 0 0 0 0 0 256
 start 1000
 ceilings 1 65535 1
 
-# 27: a sum that would wrap to 20
+# 27: a sum that would wrap to 64
 start 1000
-ceilings 65535 65535 22
+ceilings 65535 65535 66
+
+# 27: a sum that would wrap to 64 in a byte
+start 1000
+ceilings 64 128 128
 
 # no 27: the least ceilings
 start 1000
 ceilings 1
 kernel 1100 -6
 
-# no 27: a sum of 20
+# no 27: a sum of 64
 start 1000
-ceilings 1 0 0 0 0 0 0 0 19
+ceilings 1 0 0 0 0 0 0 0 63
 kernel 1100 -6
 
 ",
@@ -379,9 +393,9 @@ fn order_of_ceilings() {
 start 1000 31 2147483648
 ceilings 0
 
-# order: a value too large and a sum of 21: 24
+# order: a value too large and a sum of 65: 24
 start 1000 0 4294967295
-ceilings 21
+ceilings 65
 
 # order: bad ceilings in a cut start: 20
 start 1000

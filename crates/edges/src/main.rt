@@ -2,6 +2,7 @@
 mod calls;
 mod ceilings;
 mod fields;
+mod full;
 mod hands;
 mod interrupts;
 mod refusals;
@@ -12,6 +13,7 @@ fn main() {
     refusals::all();
     calls::all();
     ceilings::all();
+    full::all();
     hands::all();
     interrupts::all();
     fields::all();

@@ -19,18 +19,19 @@ kernel 2200 -2 0
     );
 }
 
-// "Create with 19 alive, with 20 (−1), with 20 then a childless one killed", where customer 0 has all 20 places
+// "Create with 19 alive, with 20 (−1), with 20 then a childless one killed", where customer 0 has all places, which are 64
+// with (v)
 fn creates() {
     play::play(
-        b"# create with 19 alive
+        b"# create with 63 alive
 start 1000
 kernel 1100 -1
-again 18
+again 62
 
-# create with 20 alive; then a childless one is killed: that slot again, a new id; all 20 end with id 1
+# create with 64 alive; then a childless one is killed: that slot again, a new id; all 64 end with id 1
 start 1000
 kernel 1100 -1
-again 18
+again 62
 kernel 1200 -1
 kernel 1300 -2 7
 kernel 1400 -1

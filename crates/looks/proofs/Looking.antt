@@ -263,9 +263,9 @@ one-result x r s p q = p ∙ sym q
 
 -- ---- the whole example of document 01 after its sixth event: slot 1 has just commanded sub-device 32, and slot 0 runs
 six : book.Machine
-six = run (start base-slots 1000 (1 ∷ replicate 31 0) (20 ∷ replicate 8 0)) (call 1500 1 0 0 0 ∷ call 1600 3 0 0 0 ∷ call 1700 3 0 0 0 ∷ call 1800 6 0 0 0 ∷ call 1900 4 0 0 0 ∷ call 2000 5 32 7 0 ∷ [])
+six = run (start base-slots 1000 (1 ∷ replicate 31 0) (base-slots ∷ replicate 8 0)) (call 1500 1 0 0 0 ∷ call 1600 3 0 0 0 ∷ call 1700 3 0 0 0 ∷ call 1800 6 0 0 0 ∷ call 1900 4 0 0 0 ∷ call 2000 5 32 7 0 ∷ [])
 
-places-seen : map (λ s. place-at s six) (0 ∷ 1 ∷ 2 ∷ 20 ∷ []) ≡ Running ∷ Waiting (Device 32) ∷ Nowhere ∷ Nowhere ∷ []
+places-seen : map (λ s. place-at s six) (0 ∷ 1 ∷ 2 ∷ base-slots ∷ []) ≡ Running ∷ Waiting (Device 32) ∷ Nowhere ∷ Nowhere ∷ []
 unfolding rule-book six place-at
 places-seen = refl
 
@@ -277,6 +277,6 @@ alive-seen : mask (living six) ≡ 3
 unfolding rule-book six
 alive-seen = refl
 
-customers-seen : map (λ c. living-of c six ∷ ceiling c six ∷ []) (0 ∷ 1 ∷ 9 ∷ []) ≡ (2 ∷ 20 ∷ []) ∷ (0 ∷ 0 ∷ []) ∷ (0 ∷ 0 ∷ []) ∷ []
+customers-seen : map (λ c. living-of c six ∷ ceiling c six ∷ []) (0 ∷ 1 ∷ 9 ∷ []) ≡ (2 ∷ base-slots ∷ []) ∷ (0 ∷ 0 ∷ []) ∷ (0 ∷ 0 ∷ []) ∷ []
 unfolding rule-book six
 customers-seen = refl

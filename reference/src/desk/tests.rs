@@ -6,7 +6,7 @@ use crate::{generate, line, log};
 
 const ZERO: [u32; SEMAPHORES] = [0; SEMAPHORES];
 /// All places for customer 0.
-const ALL: [u16; CUSTOMERS] = [20, 0, 0, 0, 0, 0, 0, 0, 0];
+const ALL: [u16; CUSTOMERS] = [SLOTS as u16, 0, 0, 0, 0, 0, 0, 0, 0];
 
 fn kernel(clock: u32, a0: i32, a1: u32) -> Event {
     create(clock, a0, a1, 0)
@@ -100,15 +100,20 @@ fn whole_example() {
 
 #[test]
 fn creates() {
-    // "Create with 19 alive, with 20 (−1), with 20 then a childless one killed"
-    let mut desk = family(18);
+    // "Create with 19 alive, with 20 (−1), with 20 then a childless one killed": with 62, 63 and 64
+    let mut desk = family(61);
     play(
         &mut desk,
         [
-            (kernel(0, -1, 0), "0 on 0 20 19 - 0 0"),
+            (kernel(0, -1, 0), "0 on 0 63 62 - 0 0"),
+            (kernel(0, -1, 0), "0 on 0 64 63 - 0 0"),
             (kernel(0, -1, 0), "0 on 0 -1 - - 0 0"),
             (kernel(0, -2, 8), "0 run 1 0 - - 0 128"),
-            (kernel(0, -1, 0), "0 on 1 21 7 - 0 0"),
+            (kernel(0, -1, 0), "0 on 1 65 7 - 0 0"),
+            (kernel(0, -2, 64), "0 run 2 0 - - 0 9223372036854775808"),
+            (kernel(0, -1, 0), "0 on 2 66 63 - 0 0"),
+            (kernel(0, -1, 0), "0 on 2 -1 - - 0 0"),
+            (kernel(0, -2, 1), "0 halt - - - - 0 18446744073709551615"),
         ],
     );
     let mut desk = family(0);
@@ -122,7 +127,7 @@ fn creates() {
 #[test]
 fn ceilings() {
     // Each customer to its own ceiling, whatever the others hold; the table's last place too.
-    let mut desk = with_ceilings([2, 1, 0, 0, 0, 0, 0, 0, 17]);
+    let mut desk = with_ceilings([2, 1, 0, 0, 0, 0, 0, 0, 61]);
     play(
         &mut desk,
         [
@@ -133,7 +138,7 @@ fn ceilings() {
             (names(0), "0 on 0 -1 - - 0 0"),
         ],
     );
-    for slot in 3..20 {
+    for slot in 3..64 {
         play(&mut desk, [(names(8), &format!("0 on 0 {} {slot} - 0 0", slot + 1))]);
     }
     play(&mut desk, [(names(8), "0 on 0 -1 - - 0 0")]);
@@ -516,15 +521,16 @@ fn refused_starts() {
     // "refusal 27 after 24"
     assert_eq!(Desk::fresh(9, values, ALL), too_large);
     assert_eq!(Desk::fresh(9, values, [0; CUSTOMERS]), too_large);
-    for allowed in [[1, 0, 0, 0, 0, 0, 0, 0, 0], [1, 0, 0, 0, 0, 0, 0, 0, 19], [4, 2, 2, 2, 2, 2, 2, 2, 2]] {
+    for allowed in [[1, 0, 0, 0, 0, 0, 0, 0, 0], [1, 0, 0, 0, 0, 0, 0, 0, 63], [8, 7, 7, 7, 7, 7, 7, 7, 7]] {
         assert!(Desk::fresh(9, ZERO, allowed).is_ok());
     }
     for refused in [
         [0; CUSTOMERS],
         [0, 20, 0, 0, 0, 0, 0, 0, 0],
-        [21, 0, 0, 0, 0, 0, 0, 0, 0],
-        [1, 0, 0, 0, 0, 0, 0, 0, 20],
-        [4, 2, 2, 2, 2, 2, 2, 2, 3],
+        [65, 0, 0, 0, 0, 0, 0, 0, 0],
+        [1, 0, 0, 0, 0, 0, 0, 0, 64],
+        [8, 7, 7, 7, 7, 7, 7, 7, 8],
+        [1, 255, 0, 0, 0, 0, 0, 0, 0],
         [256, 0, 0, 0, 0, 0, 0, 0, 0],
         [1, 65_535, 1, 0, 0, 0, 0, 0, 0],
         [32_768, 32_768, 0, 0, 0, 0, 0, 0, 0],

@@ -108,7 +108,7 @@ fn ceilings() {
     let with = |ceilings| Start { ceilings, ..START };
     for refused in [
         [0, 20, 0, 0, 0, 0, 0, 0, 0],
-        [1, 0, 0, 0, 0, 0, 0, 0, 20],
+        [1, 0, 0, 0, 0, 0, 0, 0, 64],
         [1, 0, 0, 0, 0, 0, 0, 0, 256],
         [1, 65_535, 1, 0, 0, 0, 0, 0, 0],
     ] {
@@ -117,7 +117,7 @@ fn ceilings() {
         start.values[31] = VALUE_MAX + 1;
         refused_start(&start, 24);
     }
-    assert_eq!(lines(&with([1, 0, 0, 0, 0, 0, 0, 0, 19]).to_field()), "");
+    assert_eq!(lines(&with([1, 0, 0, 0, 0, 0, 0, 0, 63]).to_field()), "");
     // A start without ceilings: with the new length, and with its own.
     let mut start = START.to_field();
     start.truncate(135);

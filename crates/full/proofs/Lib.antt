@@ -1,0 +1,2 @@
+-- Worked rows, by computing.
+pub mod Full
