@@ -1,4 +1,5 @@
--- The call −1, over machines alone: which slot is the lowest free one, that there is one for a customer below its ceiling, and what the call comes to.
+-- The call −1, over machines alone: which slot is the lowest free one, that there is one for a customer below its
+-- ceiling, and what the call comes to.
 -- Assumes nothing.
 use mathlib.Core.Path.{_≡_, refl, sym, ap, _∙_}
 use mathlib.Core.Bool.{Bool, true, false, not, _||_}
@@ -19,7 +20,7 @@ use Rattle.rules.specs.Rules.{create, carry-on, denied}
 use Rattle.rules.proofs.Cases.{or-true}
 use Rattle.rules.specs.Tables.{Sound}
 use Rattle.rules.proofs.Sound.{or-right, below-ceiling, room}
-use Rattle.lines.specs.Lines.{firstWhere, isZero, occ, one, membersOf}
+use Rattle.lines.specs.Lines.{first-where, is-zero, occ, one, members-of}
 use Rattle.lines.specs.declared.Found.the-variants.{At, Nothing}
 use Rattle.lines.proofs.Occ.{room-none}
 use Rattle.lines.proofs.Laws.{first-in}
@@ -56,7 +57,7 @@ held-among m s (x ∷ l) = go (ℕ-discrete x s) (held-among m s l)
 
 module _ (m : Tables) (g : Shape m) where
   -- a slot is held exactly where its id is not zero
-  taken : (s : ℕ) → s < base-slots → among s (held m (seats m)) ≡ not (isZero (getD (m .ids) s 0))
+  taken : (s : ℕ) → s < base-slots → among s (held m (seats m)) ≡ not (is-zero (getD (m .ids) s 0))
   taken s b = held-among m s (seats m) ∙ rw (g .homes s b) (go (eqb (getD (m .ids) s 0) 0))
     where
       go : (t : Bool) → not (eqb (if t then 0 else 1) 0) ≡ not t
@@ -66,23 +67,24 @@ module _ (m : Tables) (g : Shape m) where
   size : length (living (view m)) ≡ length (seats m)
   size = ap length (seats-living m) ∙ length-map (seats m) (row m)
 
-  -- "the child's customer is at its ceiling, the named customer is above 8, or ids have run out": the first two by the rows and the ceilings
+  -- "the child's customer is at its ceiling, the named customer is above 8, or ids have run out": the first two by the
+  -- rows and the ceilings
   pub denied-is : (c : ℕ) → denied c (view m) ≡ (at-its-ceiling m c || ltb top (m .next))
   unfolding denied
   denied-is c = rw (members m g c)
 
   -- no row is free
-  none-left : firstWhere isZero 0 (m .ids) ≡ Nothing → length (seats m) ≡ base-slots
+  none-left : first-where is-zero 0 (m .ids) ≡ Nothing → length (seats m) ≡ base-slots
   none-left e =
       room-none base-slots (seats m) (seats-slots m g)
-      (λ s b. g .homes s b ∙ ap (λ t. if t then 0 else 1) (found-not isZero (m .ids) 0 e s (omega (arith, g .ids-long))))
+      (λ s b. g .homes s b ∙ ap (λ t. if t then 0 else 1) (found-not is-zero (m .ids) 0 e s (omega (arith, g .ids-long))))
 
-  module _ (s : ℕ) (e : firstWhere isZero 0 (m .ids) ≡ At s) where
+  module _ (s : ℕ) (e : first-where is-zero 0 (m .ids) ≡ At s) where
     pub found-slot : s < base-slots
-    found-slot = omega (arith, first-in isZero (m .ids) 0 s e, g .ids-long)
+    found-slot = omega (arith, first-in is-zero (m .ids) 0 s e, g .ids-long)
 
     pub found-free : getD (m .ids) s 0 ≡ 0
-    found-free = eqb-true (getD (m .ids) s 0) 0 (found-passes isZero (m .ids) s e)
+    found-free = eqb-true (getD (m .ids) s 0) 0 (found-passes is-zero (m .ids) s e)
 
     lowest-found : lowest-free (view m) ≡ s
     unfolding lowest-free
@@ -100,7 +102,7 @@ module _ (m : Tables) (g : Shape m) where
     pub create-ceiling : at-its-ceiling m (child m priority) ≡ true → create (row m (m .running)) 0 priority handle (view m) ≡ carry-on (row m (m .running)) (with-result (Says (negsuc 0))) (view m)
     create-ceiling e = refused (denied-is (child m priority) ∙ rw e)
 
-    pub create-shape : m .running < base-slots → (s : ℕ) → firstWhere isZero 0 (m .ids) ≡ At s → Shape (born m s (child m priority) priority handle)
+    pub create-shape : m .running < base-slots → (s : ℕ) → first-where is-zero 0 (m .ids) ≡ At s → Shape (born m s (child m priority) priority handle)
     create-shape h s e = born-shape m g h s (child m priority) priority handle (found-slot s e) (found-free s e)
 
     -- below the ceiling, with ids left
@@ -114,15 +116,15 @@ module _ (m : Tables) (g : Shape m) where
           omega (
             arith,
             leb-false (length (m .ceilings)) (child m priority)
-                (or-right (leb (getD (m .ceilings) (child m priority) 0) (membersOf base-slots (m .ids) (m .customers) (child m priority))) (leb (length (m .ceilings)) (child m priority)) below),
+                (or-right (leb (getD (m .ceilings) (child m priority) 0) (members-of base-slots (m .ids) (m .customers) (child m priority))) (leb (length (m .ceilings)) (child m priority)) below),
             g .ceilings-long,
           )
 
       -- a slot is free: that none is left cannot be
-      pub create-slots : Sound (view m) → firstWhere isZero 0 (m .ids) ≡ Nothing → ⊥
+      pub create-slots : Sound (view m) → first-where is-zero 0 (m .ids) ≡ Nothing → ⊥
       create-slots sound e = omega (arith, room (child m priority) (view m) sound (below-ceiling (child m priority) (view m) granted), size, none-left e)
 
-      pub create-born : m .running < base-slots → (s : ℕ) → firstWhere isZero 0 (m .ids) ≡ At s
+      pub create-born : m .running < base-slots → (s : ℕ) → first-where is-zero 0 (m .ids) ≡ At s
           → create (row m (m .running)) 0 priority handle (view m)
           ≡ carry-on (row (born m s (child m priority) priority handle) (m .running)) (giving (pos (m .next)) (bearing s plain)) (view (born m s (child m priority) priority handle))
       unfolding create carry-on

@@ -20,7 +20,7 @@ use Rattle.rules.specs.Machine as book
 use Rattle.rules.specs.Machine.{Process, living, named, family, family-of, kill, back}
 use Rattle.rules.specs.Answers.{Outcome, plain, giving, ending}
 use Rattle.rules.specs.Rules.{schedule, carry-on, die, may-name, terminate}
-use Rattle.lines.specs.Lines.{firstWhere, isId, occ}
+use Rattle.lines.specs.Lines.{first-where, is-id, occ}
 use Rattle.lines.specs.declared.Found.the-variants as found
 use Rattle.lines.proofs.Occ.{one-other}
 use Rattle.lines.proofs.Laws.{first-in}
@@ -90,15 +90,15 @@ module _ (m : Tables) (g : Shape m) (n : ℕ) (u : Process → Bool) where
   living-named = ap (any (whom n u)) (seats-living m) ∙ any-map (whom n u) (row m) (seats m)
 
   -- who has an id is found by it: the test is asked of that one alone
-  found-named : 0 < n → (i : ℕ) → firstWhere (isId n) 0 (m .ids) ≡ found.At i → any (whom n u) (living (view m)) ≡ u (row m i)
+  found-named : 0 < n → (i : ℕ) → first-where (is-id n) 0 (m .ids) ≡ found.At i → any (whom n u) (living (view m)) ≡ u (row m i)
   unfolding t
   found-named some i e = living-named ∙ go (u (row m i)) refl
     where
       b : i < base-slots
-      b = omega (arith, first-in (isId n) (m .ids) 0 i e, g .ids-long)
+      b = omega (arith, first-in (is-id n) (m .ids) 0 i e, g .ids-long)
 
       is : getD (m .ids) i 0 ≡ n
-      is = eqb-true (getD (m .ids) i 0) n (found-passes (isId n) (m .ids) i e)
+      is = eqb-true (getD (m .ids) i 0) n (found-passes (is-id n) (m .ids) i e)
 
       here : Seat m i
       here = living-seat m g i b (omega (arith, is))
@@ -115,12 +115,12 @@ module _ (m : Tables) (g : Shape m) (n : ℕ) (u : Process → Bool) where
       go false f = any-never (Seat m) t (λ s p. only s p f) (seats m) (seated m g)
 
   -- "an id that names nobody alive"
-  nobody-named : firstWhere (isId n) 0 (m .ids) ≡ found.Nothing → any (whom n u) (living (view m)) ≡ false
+  nobody-named : first-where (is-id n) 0 (m .ids) ≡ found.Nothing → any (whom n u) (living (view m)) ≡ false
   unfolding t
   nobody-named e = living-named ∙ any-never (Seat m) t none (seats m) (seated m g)
     where
       none : (s : ℕ) → Seat m s → t s ≡ false
-      none s p = rw (ne-eqb n (getD (m .ids) s 0) (λ q. eqb-false (getD (m .ids) s 0) n (found-not (isId n) (m .ids) 0 e s (omega (arith, g .ids-long, p .slot))) (sym q)))
+      none s p = rw (ne-eqb n (getD (m .ids) s 0) (λ q. eqb-false (getD (m .ids) s 0) n (found-not (is-id n) (m .ids) 0 e s (omega (arith, g .ids-long, p .slot))) (sym q)))
 
 module _ (m : Tables) (g : Shape m) (runs : m .running < base-slots) (a1 n : ℕ) (e : n ≡ (if eqb a1 0 then getD (m .ids) (m .running) 0 else a1)) where
   -- "a1 = 0 means the caller, otherwise an id": never 0
@@ -131,7 +131,7 @@ module _ (m : Tables) (g : Shape m) (runs : m .running < base-slots) (a1 n : ℕ
       go (yes z) = let y : n ≡ getD (m .ids) (m .running) 0 = e ∙ rw (eq-eqb a1 0 z) in omega (arith, own-id m g runs)
       go (no d) = let y : n ≡ a1 = e ∙ rw (ne-eqb a1 0 d) in omega arith
 
-  pub ends-nobody : firstWhere (isId n) 0 (m .ids) ≡ found.Nothing → (r : Settled) → Comes (carry-on (caller m) (with-result (Says (negsuc 0))) (view m)) r
+  pub ends-nobody : first-where (is-id n) 0 (m .ids) ≡ found.Nothing → (r : Settled) → Comes (carry-on (caller m) (with-result (Says (negsuc 0))) (view m)) r
       → Comes (terminate (caller m) a1 0 0 (view m)) r
   ends-nobody h r c = comes-by _ _ r (terminate-by (caller m) a1 n (view m) e ∙ rw (nobody-named m g n (may-name (caller m)) h)) c
 
@@ -144,11 +144,11 @@ module _ (m : Tables) (g : Shape m) (runs : m .running < base-slots) (a1 n : ℕ
   as-rows i = refl
 
   -- 02, (xi): "any other id gives −1"
-  pub ends-forbidden : (i : ℕ) → firstWhere (isId n) 0 (m .ids) ≡ found.At i → may i ≡ false → (r : Settled) → Comes (carry-on (caller m) (with-result (Says (negsuc 0))) (view m)) r
+  pub ends-forbidden : (i : ℕ) → first-where (is-id n) 0 (m .ids) ≡ found.At i → may i ≡ false → (r : Settled) → Comes (carry-on (caller m) (with-result (Says (negsuc 0))) (view m)) r
       → Comes (terminate (caller m) a1 0 0 (view m)) r
   ends-forbidden i h forbids r c = comes-by _ _ r (terminate-by (caller m) a1 n (view m) e ∙ rw (found-named m g n (may-name (caller m)) named-pos i h, as-rows i, forbids)) c
 
-  module _ (i : ℕ) (h : firstWhere (isId n) 0 (m .ids) ≡ found.At i) (allows : may i ≡ true) (k : Killed) (t : Kills n m k) (x : Answer) (r : Settled) where
+  module _ (i : ℕ) (h : first-where (is-id n) 0 (m .ids) ≡ found.At i) (allows : may i ≡ true) (k : Killed) (t : Kills n m k) (x : Answer) (r : Settled) where
     ends-found : terminate (caller m) a1 0 0 (view m) ≡ ends-with n (caller m) (view m)
     ends-found = terminate-by (caller m) a1 n (view m) e ∙ rw (found-named m g n (may-name (caller m)) named-pos i h, as-rows i, allows)
 

@@ -10,7 +10,7 @@ use lib.Seq.{getD-set-same, getD-set-other}
 use Rattle.rules.specs.Numbers.{base-slots}
 use Rattle.rules.specs.Machine as book
 use Rattle.rules.specs.Machine.{Process, Waiter, child-of, newborn, birth, lowest-free}
-use Rattle.lines.specs.Lines.{occ, one, takenMask}
+use Rattle.lines.specs.Lines.{occ, one, mask-of-taken}
 use Rattle.lines.proofs.Occ.{one-same, one-other, occ-snoc}
 use Rattle.lines.proofs.Zeros.{mask-set, mask-fits}
 use Rattle.lines.proofs.Laws.{push-view, push-line}
@@ -79,7 +79,7 @@ module _ (m : Tables) (g : Shape m) (h : m .running < base-slots) (s customer pr
   pos = omega (arith, g .issued s b)
 
   -- the newborn's bit joins those taken
-  bit-taken : takenMask base-slots (r .ids) ≡ takenMask base-slots (m .ids) + 2 ^ s
+  bit-taken : mask-of-taken base-slots (r .ids) ≡ mask-of-taken base-slots (m .ids) + 2 ^ s
   bit-taken = mask-set base-slots (m .ids) s (m .next) b (omega (arith, g .ids-long)) free pos
 
   pub bit-fits : m .taken + 2 ^ s < 2 ^ base-slots

@@ -79,8 +79,8 @@ fn create(mut t: Tables, a2: u32, a3: u32) -> Settled
     t.carries_on(x)
 }
 
-// −2: "The named process and all descendants end."; 02, (ix): "a surviving caller with a valid target goes to the end of its ready line
-// with result 0, then schedule. An id that names nobody still gives −1 and carries on."
+// −2: "The named process and all descendants end."; 02, (ix): "a surviving caller with a valid target goes to the end
+// of its ready line with result 0, then schedule. An id that names nobody still gives −1 and carries on."
 fn terminate(t: Tables, a1: u32) -> Settled
     requires { ⌜ Shape t × (t .running < base-slots) ⌝ }
     ensures { λ r. ⌜ Comes (terminate (row t (t .running)) a1 0 0 (view t)) r ⌝ }
@@ -122,7 +122,8 @@ fn passeren(mut t: Tables, a1: u32) -> Settled
     t.carries_on(x)
 }
 
-// −4, V: "if anyone waits, the first goes to the end of the ready line and the value stays 0; else the value rises by one".
+// −4, V: "if anyone waits, the first goes to the end of the ready line and the value stays 0; else the value rises by
+// one".
 fn verhogen(t: Tables, a1: u32) -> Settled
     requires { ⌜ Shape t × (t .running < base-slots) ⌝ }
     ensures { λ r. ⌜ Comes (verhogen (row t (t .running)) a1 0 0 (view t)) r ⌝ }

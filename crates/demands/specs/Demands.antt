@@ -1,5 +1,6 @@
--- DEMAND 3 OF THE CODE: whoever starts the desk and hands it any events, one after the other, refused ones included, gets answers and a machine
--- of which every law of the ledger holds. Each field is a law of crates/ledger, said of what the code answered and of the machine it came to.
+-- DEMAND 3 OF THE CODE: whoever starts the desk and hands it any events, one after the other, refused ones included,
+-- gets answers and a machine of which every law of the ledger holds. Each field is a law of crates/ledger, said of what
+-- the code answered and of the machine it came to.
 use mathlib.Core.Path.{_≡_, ap, subst}
 use mathlib.Core.Bool.{true}
 use mathlib.Core.List.{List}
@@ -79,8 +80,8 @@ demand-3 now values ceilings es s rs ok t f =
       scheduling = promises.scheduling base-slots now values ceilings es (omega arith) ok;
     }
 
--- 02, (ii), of the code: two machines that agree on a customer's ceiling and living count, and that both take the event, grant or deny a create of
--- its child by the same caller's customer alike, whatever the others hold
+-- 02, (ii), of the code: two machines that agree on a customer's ceiling and living count, and that both take the
+-- event, grant or deny a create of its child by the same caller's customer alike, whatever the others hold
 pub isolation : (m m′ : Machine) (r r′ : Answered) (p p′ : Process) (now now′ a1 a1′ a2 a3 a3′ : ℕ)
     → Answers (create-call now a1 a2 a3) m r → Answers (create-call now′ a1′ a2 a3′) m′ r′
     → Taken p (view m) (create-call now a1 a2 a3) → Taken p′ (view m′) (create-call now′ a1′ a2 a3′)

@@ -31,7 +31,8 @@ impl Machine {
         looks::alive(t)
     }
 
-    // All of the process in a slot: id, parent, customer, priority, handle, time and place; zeros where nobody is there.
+    // All of the process in a slot: id, parent, customer, priority, handle, time and place; zeros where nobody is
+    // there.
     pub fn row(self, slot: u8) -> Row
         requires { ⌜ Good self ⌝ }
         ensures { λ r. ⌜ r ≡ row-at slot (view self) ⌝ }

@@ -1,5 +1,5 @@
-// "The edges of (ii) are tried again with 63 and 64 alive": a table that is full, of one customer, of a broad family and of a
-// deep one.
+// "The edges of (ii) are tried again with 63 and 64 alive": a table that is full, of one customer, of a broad family
+// and of a deep one.
 
 // Who fills the table, and what is free again.
 fn filled() {

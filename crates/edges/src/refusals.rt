@@ -1,5 +1,6 @@
-// When the desk says no: 1, 5, 6, 2 and 4, and their order. (Refusal 3 needs gaps that sum above 2 to the 62. A log of 65,536
-// bytes has fewer than 8,200 events, and each gap is below 2 to the 31: no log reaches it, and the proofs alone show it.)
+// When the desk says no: 1, 5, 6, 2 and 4, and their order. (Refusal 3 needs gaps that sum above 2 to the 62. A log of
+// 65,536 bytes has fewer than 8,200 events, and each gap is below 2 to the 31: no log reaches it, and the proofs alone
+// show it.)
 
 // "line not 1 to 7; or line 3 to 6 with first byte zero; or line 7 with both zero"
 fn lines() {

@@ -19,8 +19,8 @@ kernel 2200 -2 0
     );
 }
 
-// "Create with 19 alive, with 20 (−1), with 20 then a childless one killed", where customer 0 has all places, which are 64
-// with (v)
+// "Create with 19 alive, with 20 (−1), with 20 then a childless one killed", where customer 0 has all places, which are
+// 64 with (v)
 fn creates() {
     play::play(
         b"# create with 63 alive

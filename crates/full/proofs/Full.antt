@@ -1,4 +1,5 @@
--- The edges of 02, (ii), tried again "with 63 and 64 alive", (v), and a table that is full of one family: of n slots, proved by computing at several n.
+-- The edges of 02, (ii), tried again "with 63 and 64 alive", (v), and a table that is full of one family: of n slots,
+-- proved by computing at several n.
 use mathlib.Core.Path.{_≡_, refl}
 use mathlib.Core.List.{List, _∷_, _++_, map, []}
 use Prim.Native.Nat.{ℕ, zero, suc, _+_, _-_, _%_}
@@ -19,7 +20,8 @@ times : ℕ → List Event → List Event
 times zero es = []
 times (suc n) es = es ++ times n es
 
--- a number of slots and a slot in the middle; as masks that slot alone, the last one alone, every slot but slot 0, and every slot
+-- a number of slots and a slot in the middle; as masks that slot alone, the last one alone, every slot but slot 0, and
+-- every slot
 record Size : Type 0 where
   slots : ℕ
   middle : ℕ
@@ -49,10 +51,12 @@ full-edges z =
     -- one customer with all the places: creates with two places left, with one (the last slot), and with none (−1)
     edge n 0 0 (creates n)
     (created 0 (n - 1) (n - 2) ∷ created 0 n (n - 1) ∷ not-created 0 ∷ [])
-    -- customer 1 with all places but id 1's: it fills them by itself up to the last slot, and then neither it nor customer 0 gets one more
+    -- customer 1 with all places but id 1's: it fills them by itself up to the last slot, and then neither it nor
+    -- customer 0 gets one more
     ∷ edge-of (1 ∷ (n - 1) ∷ replicate 7 0) 0 0 (create-for 1 ∷ call 0 10 0 0 0 ∷ creates (n - 1) ++ call 0 10 0 0 0 ∷ create-for 1 ∷ create-for 0 ∷ [])
     (created 1 n (n - 1) ∷ not-created 1 ∷ runs 0 ∷ not-created 0 ∷ not-created 0 ∷ [])
-    -- nine customers, each filled to its last place: every create is granted, in slot after slot, and then each customer is denied one more
+    -- nine customers, each filled to its last place: every create is granted, in slot after slot, and then each
+    -- customer is denied one more
     ∷ edge-of (dealt n) 0 0 (map (λ k. create-for (suc k % 9)) (below (n - 1)) ++ map create-for (below 9))
     (map (λ k. created 0 (k + 2) (k + 1)) (below (n - 1)) ++ replicate 9 (not-created 0))
     -- the last slot is freed, and the next newborn has it, with a new id; then one in the middle
@@ -72,7 +76,8 @@ full-edges z =
     (stops Halt (z .bits) ∷ refused ∷ [])
     ∷ edge n 0 0 (creates n ++ times (n - 1) (call 0 10 0 0 0 ∷ []) ++ call 0 2 1 0 0 ∷ [])
     (runs (n - 1) ∷ stops Halt (z .bits) ∷ [])
-    -- a deep one, each the child of the one before, all but the last waiting: the last ends id 2, and with it all but id 1, which waits on: panic
+    -- a deep one, each the child of the one before, all but the last waiting: the last ends id 2, and with it all but
+    -- id 1, which waits on: panic
     ∷ edge n 0 0 (times (n - 1) (call 0 1 0 0 0 ∷ call 0 3 0 0 0 ∷ []) ++ call 0 2 2 0 0 ∷ [])
     (created (n - 2) n (n - 1) ∷ runs (n - 1) ∷ stops Panic (z .other-bits) ∷ [])
     -- the last ends id 1, and with it all: halt

@@ -10,7 +10,7 @@ use lib.ListN.{length, getD}
 use borrow.Author.Tests.{le-leb, lt-leb}
 use Rattle.rules.specs.Numbers.{base-slots, base-customers}
 use Rattle.rules.proofs.Cases.{or-true}
-use Rattle.lines.specs.Lines.{membersOf}
+use Rattle.lines.specs.Lines.{members-of}
 use Rattle.kin.specs.Families.{at-ceiling}
 
 or-false : (b : Bool) → (b || false) ≡ b
@@ -19,7 +19,7 @@ or-false false = refl
 
 module _ (ids customers ceilings : List ℕ) (long : length ceilings ≡ base-customers) (c : ℕ) where
   pub ceiling-none : base-customers ≤ c → at-ceiling ids customers ceilings c ≡ true
-  ceiling-none h = rw (le-leb (length ceilings) c (omega (arith, long))) (or-true (leb (getD ceilings c 0) (membersOf base-slots ids customers c)))
+  ceiling-none h = rw (le-leb (length ceilings) c (omega (arith, long))) (or-true (leb (getD ceilings c 0) (members-of base-slots ids customers c)))
 
-  pub ceiling-some : c < base-customers → at-ceiling ids customers ceilings c ≡ leb (getD ceilings c 0) (membersOf base-slots ids customers c)
-  ceiling-some h = rw (lt-leb (length ceilings) c (omega (arith, long))) (or-false (leb (getD ceilings c 0) (membersOf base-slots ids customers c)))
+  pub ceiling-some : c < base-customers → at-ceiling ids customers ceilings c ≡ leb (getD ceilings c 0) (members-of base-slots ids customers c)
+  ceiling-some h = rw (lt-leb (length ceilings) c (omega (arith, long))) (or-false (leb (getD ceilings c 0) (members-of base-slots ids customers c)))

@@ -7,7 +7,7 @@ use lib.ListN.{length, getD}
 use lib.Dec.{eqb, leb}
 use Rattle.rules.specs.Numbers.{base-slots}
 use Rattle.rules.specs.Words.{first, among}
-use Rattle.lines.specs.Lines.{membersOf}
+use Rattle.lines.specs.Lines.{members-of}
 
 -- ── Ancestors ──
 
@@ -57,4 +57,4 @@ may-name-at customers parents ids s t = eqb (getD customers s 0) 0 || kin parent
 
 -- 02, (ii): "the child's customer is at its ceiling, the named customer is above 8", where rows and ceilings are these
 abbrev pub at-ceiling : List ℕ → List ℕ → List ℕ → ℕ → Bool
-at-ceiling ids customers ceilings c = leb (getD ceilings c 0) (membersOf base-slots ids customers c) || leb (length ceilings) c
+at-ceiling ids customers ceilings c = leb (getD ceilings c 0) (members-of base-slots ids customers c) || leb (length ceilings) c

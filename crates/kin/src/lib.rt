@@ -1,5 +1,5 @@
-// Who belongs to whom, by the rows alone: families by their parents, and customers by their ceilings. Rows are arrays by
-// slot: ids (0 is free), the parent's slot and one more (0 is none), customers.
+// Who belongs to whom, by the rows alone: families by their parents, and customers by their ceilings. Rows are arrays
+// by slot: ids (0 is free), the parent's slot and one more (0 is none), customers.
 ghost use mathlib.Core.Path.{_≡_};
 ghost use Prim.Native.Nat.{_<_};
 ghost use lib.ListN.{length};

@@ -1,4 +1,5 @@
--- What holds for each of the living, and for a newborn, holds for each of the living after an event. The newborn's words are the event's own.
+-- What holds for each of the living, and for a newborn, holds for each of the living after an event. The newborn's
+-- words are the event's own.
 use mathlib.Core.Path.{sym, subst}
 use mathlib.Core.Bool.{not}
 use mathlib.Core.List.{List, _++_, map}

@@ -1,5 +1,5 @@
--- WHO MOVES. What an accepted event does to the places: nobody moves but as one of seven rows says, and then the first in the ready line runs
--- where nobody does. So everybody else keeps their place and their order within their line.
+-- WHO MOVES. What an accepted event does to the places: nobody moves but as one of seven rows says, and then the first
+-- in the ready line runs where nobody does. So everybody else keeps their place and their order within their line.
 use mathlib.Core.Path.{_≡_}
 use mathlib.Core.Bool.{not}
 use mathlib.Core.List.{List, [], _∷_, _++_, map}

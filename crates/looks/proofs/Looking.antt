@@ -20,7 +20,7 @@ use Rattle.rules.specs.Machine.{Process, Waiter, living, living-of, ceiling}
 use Rattle.rules.specs.Answers.{mask}
 use Rattle.rules.specs.Rules.{start, run, rule-book}
 use Rattle.rules.proofs.Examples.{call}
-use Rattle.lines.specs.Lines.{Line, entry, isZero, one, occ, takenMask}
+use Rattle.lines.specs.Lines.{Line, entry, is-zero, one, occ, mask-of-taken}
 use Rattle.lines.proofs.Occ.{one-other, sum-slots, tally-same}
 use Rattle.lines.proofs.Bridge.{those-map, any-map, none-is, one-is, any-those, any-none}
 use Rattle.tables.specs.declared.Tables.{Tables}
@@ -231,12 +231,12 @@ module _ (m : Tables) (g : Shape m) where
 
   -- ---- all of them
   pub all-alive : mask (living (view m)) ≡ m .taken
-  unfolding mask takenMask
+  unfolding mask mask-of-taken
   all-alive =
       ap (sum (λ p. 2 ^ p .slot)) (seats-living m)
       ∙ sum-over (λ p. 2 ^ p .slot) (row m) (seats m)
       ∙ sum-slots base-slots (λ s. 2 ^ s) (seats m) (seats-slots m g)
-      ∙ tally-same (λ s. occ s (seats m) * 2 ^ s) (λ s. if isZero (entry (m .ids) s) then 0 else 2 ^ s) base-slots (λ s k. ap (λ n. n * 2 ^ s) (g .homes s k) ∙ of-taken (getD (m .ids) s 0) (2 ^ s))
+      ∙ tally-same (λ s. occ s (seats m) * 2 ^ s) (λ s. if is-zero (entry (m .ids) s) then 0 else 2 ^ s) base-slots (λ s k. ap (λ n. n * 2 ^ s) (g .homes s k) ∙ of-taken (getD (m .ids) s 0) (2 ^ s))
       ∙ sym (g .taken-mask)
 
 -- ---- a line in order: the slots of its rows, and zeros behind them

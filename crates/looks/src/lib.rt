@@ -1,7 +1,7 @@
 // What a host sees of a machine's tables. Nothing here changes them: tables are a value, and a look takes a copy.
-// Each promise is one equation for the result, for every argument: there is one result and no other. Slots and customers
-// are bytes, as in answers. Whether somebody is in a slot is told by the id (0 is nobody's) and by the place; the other
-// numbers are 0 where nobody is there.
+// Each promise is one equation for the result, for every argument: there is one result and no other. Slots and
+// customers are bytes, as in answers. Whether somebody is in a slot is told by the id (0 is nobody's) and by the place;
+// the other numbers are 0 where nobody is there.
 ghost use mathlib.Core.Path.{_≡_};
 ghost use Prim.Native.Nat.{_<_, _≤_};
 ghost use Rattle.rules.specs.Numbers.{base-slots};
@@ -31,8 +31,8 @@ pub enum Place {
     Waiting(Line),
 }
 
-// All that the tables have of the process in a slot: its id, the id of its parent (0 for id 1), its customer, its priority
-// ("kept, not used for order"), its support handle ("0 is none"), its time, and where it is.
+// All that the tables have of the process in a slot: its id, the id of its parent (0 for id 1), its customer, its
+// priority ("kept, not used for order"), its support handle ("0 is none"), its time, and where it is.
 pub struct Row {
     pub id: u32,
     pub parent: u32,

@@ -1,4 +1,5 @@
-// The program: "reads a log on standard input and writes a line an event". What it says of itself goes to standard error.
+// The program: "reads a log on standard input and writes a line an event". What it says of itself goes to standard
+// error.
 use console::Got;
 use libc::STDERR_FILENO;
 

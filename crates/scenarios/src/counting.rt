@@ -1,4 +1,5 @@
-// The demonstration of source document 004 (section 4.7.2): main_body starts two workers, and each signals when it has counted.
+// The demonstration of source document 004 (section 4.7.2): main_body starts two workers, and each signals when it has
+// counted.
 
 // A worker carries on after its signal, since nobody is preempted: it ends before main_body goes on.
 pub(crate) fn demonstration() {

@@ -39,7 +39,8 @@ kernel 3400 -1 0 256 ; there is room for it from slot 1 on
     );
 }
 
-// The same day where all 64 places are taken: the flood to its ceiling, the other customer to its own, the gateway to the last.
+// The same day where all 64 places are taken: the flood to its ceiling, the other customer to its own, the gateway to
+// the last.
 pub(crate) fn larger() {
     play::play(
         b"# the day of the accident on a gateway of 64 places: the flood holds 40 of them, and the alarm is sent

@@ -1,4 +1,5 @@
-// The demonstration of source document 004, the day of the accident, on a larger gateway too, and the day of the tool, played: what it writes is held to
+// The demonstration of source document 004, the day of the accident, on a larger gateway too, and the day of the tool,
+// played: what it writes is held to
 // `stdout`, which was written by hand from the rules.
 mod counting;
 mod flood;

@@ -14,7 +14,7 @@ use Rattle.rules.specs.Machine as book
 use Rattle.rules.specs.Machine.{Process, living, dispatch}
 use Rattle.rules.specs.Answers.{Outcome, doing}
 use Rattle.rules.specs.Rules.{act, schedule, nobody-ready, carry-on, resume}
-use Rattle.lines.specs.Lines.{firstWhere}
+use Rattle.lines.specs.Lines.{first-where}
 use Rattle.lines.specs.declared.Found.the-variants.{At, Nothing}
 use Rattle.lines.proofs.Bridge.{found-first, found-none, any-those, any-none}
 use Rattle.tables.specs.declared.Tables.{Tables}
@@ -51,14 +51,14 @@ module _ (x : Answer) (m : Tables) (g : Shape m) (some : 0 < m .nwaits) where
       go [] k = absurd (omega arith)
       go (y ∷ l) k = refl
 
-  pub wait-comes : (i : ℕ) → firstWhere (at-nucleus m) 0 (waiters m) ≡ At i → Comes (nobody-ready x (view m)) (record { tables = m; answer = doing Wait x })
+  pub wait-comes : (i : ℕ) → first-where (at-nucleus m) 0 (waiters m) ≡ At i → Comes (nobody-ready x (view m)) (record { tables = m; answer = doing Wait x })
   unfolding nobody-ready
   wait-comes i e = record {
     seen = some-living _ _ ∙ rw (nucleus-any m g, any-those (at-nucleus m) (waiters m) _ _ (found-first (at-nucleus m) (waiters m) i e));
     shape = g;
   }
 
-  pub panic-comes : firstWhere (at-nucleus m) 0 (waiters m) ≡ Nothing → Comes (nobody-ready x (view m)) (record { tables = put-status 2 m; answer = doing Panic x })
+  pub panic-comes : first-where (at-nucleus m) 0 (waiters m) ≡ Nothing → Comes (nobody-ready x (view m)) (record { tables = put-status 2 m; answer = doing Panic x })
   unfolding nobody-ready
   panic-comes e = record {
     seen = some-living _ _ ∙ rw (nucleus-any m g, any-none (at-nucleus m) (waiters m) (found-none (at-nucleus m) (waiters m) 0 e));

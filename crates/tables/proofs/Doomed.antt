@@ -15,7 +15,7 @@ use Rattle.rules.proofs.Sums.{sum-over}
 use Rattle.rules.proofs.Lines.{those-append}
 use Rattle.rules.specs.Machine.{Process, Waiter, family, family-of, kill}
 use Rattle.rules.specs.Answers.{mask}
-use Rattle.lines.specs.Lines.{entry, marked, alive, kept, struck, sparedOf, occ, tally, takenMask}
+use Rattle.lines.specs.Lines.{entry, marked, alive, kept, struck, spared-of, occ, tally, mask-of-taken}
 use Rattle.lines.proofs.Occ.{occ-keep, sum-marked, tally-add, tally-same}
 use Rattle.lines.proofs.Marks.{getD-struck, length-struck, struck-cases}
 use Rattle.lines.proofs.Zeros.{mask-struck}
@@ -47,7 +47,7 @@ killed m ds = record {
   nready = length (those (alive ds) (readies m));
   waits = kept (alive ds) (m .waits) (m .nwaits);
   nwaits = length (those (alive ds) (waiters m));
-  running = sparedOf base-slots ds (m .running);
+  running = spared-of base-slots ds (m .running);
   sems = m .sems;
   ceilings = m .ceilings;
   next = m .next;
@@ -72,8 +72,8 @@ kin-alive ps ids n s some e = go (getD ids s 0) e
     go (suc v) f = omega arith
 
 -- whoever runs, unless doomed
-occupant-spared : (ds : List Bool) (x : ℕ) → occupant (sparedOf base-slots ds x) ≡ those (alive ds) (occupant x)
-unfolding sparedOf
+occupant-spared : (ds : List Bool) (x : ℕ) → occupant (spared-of base-slots ds x) ≡ those (alive ds) (occupant x)
+unfolding spared-of
 occupant-spared ds x = go (leb base-slots x) refl (marked ds x) refl
   where
     go : (a : Bool) → leb base-slots x ≡ a → (d : Bool) → marked ds x ≡ d → occupant (if a then x else (if d then base-slots else x)) ≡ those (alive ds) (occupant x)
@@ -217,7 +217,7 @@ module _ (m : Tables) (g : Shape m) (n : ℕ) (ds : List Bool) (w : Marks (m .pa
       (λ f. rw (f, spared-at ds v s f) h)
 
   runner-killed : r .running ≤ base-slots
-  unfolding sparedOf
+  unfolding spared-of
   runner-killed = go (leb base-slots (m .running)) (marked ds (m .running))
     where
       go : (a d : Bool) → (if a then m .running else (if d then base-slots else m .running)) ≤ base-slots
@@ -248,7 +248,7 @@ module _ (m : Tables) (g : Shape m) (n : ℕ) (ds : List Bool) (w : Marks (m .pa
   blank-killed l h s b e = by-fate (getD (struck ds l) s 0 ≡ 0) s (λ f. dead-entry l s f) (λ f. spared-at ds l s f ∙ h s b (sym (spared-at ds (m .ids) s f) ∙ e))
 
   -- the bits of the doomed are among those taken, and what is left of them is the mask of the spared
-  pub bits-freed : 0 < n → takenMask base-slots (struck ds (m .ids)) + of-doomed ds (λ s. 2 ^ s) ≡ m .taken
+  pub bits-freed : 0 < n → mask-of-taken base-slots (struck ds (m .ids)) + of-doomed ds (λ s. 2 ^ s) ≡ m .taken
   bits-freed some = mask-struck base-slots (m .ids) ds (λ s b e. kin-alive (m .parents) (m .ids) n s some (sym (w .each s b) ∙ e)) ∙ sym (g .taken-mask)
 
   shape-killed : 0 < n → Shape r
@@ -284,7 +284,7 @@ module _ (m : Tables) (g : Shape m) (n : ℕ) (ds : List Bool) (w : Marks (m .pa
   -- ---- who runs
   module _ (runs : m .running < base-slots) where
     runner-fate : r .running ≡ (if kin (m .parents) (m .ids) n (m .running) then base-slots else m .running)
-    unfolding sparedOf
+    unfolding spared-of
     runner-fate = rw (lt-leb base-slots (m .running) runs, w .each (m .running) runs)
 
     pub kill-step : 0 < n → Kills n m (record { tables = r; ended = of-doomed ds (λ s. 2 ^ s) })

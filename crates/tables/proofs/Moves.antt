@@ -11,7 +11,7 @@ use Rattle.rules.specs.Words.{front, rest}
 use Rattle.rules.specs.Numbers.{base-slots}
 use Rattle.rules.specs.Machine as book
 use Rattle.rules.specs.Machine.{Process, Waiter, with-lines, line, back, block, dispatch}
-use Rattle.lines.specs.Lines.{Line, occ, one, removeAt, removed}
+use Rattle.lines.specs.Lines.{Line, occ, one, taken-out, removed}
 use Rattle.lines.proofs.Occ.{one-same, one-other, occ-snoc}
 use Rattle.lines.proofs.Laws.{line-size, line-slot, push-view, push-line, removed-view, removed-line}
 use Rattle.lines.proofs.Bridge.{map-apart}
@@ -65,8 +65,8 @@ unfolding occ
 occ-head x s l = refl
 
 -- ---- the first in the ready line runs
-head-first : (l : List ℕ) → 0 < length l → l ≡ getD l 0 0 ∷ removeAt 0 l
-unfolding removeAt
+head-first : (l : List ℕ) → 0 < length l → l ≡ getD l 0 0 ∷ taken-out 0 l
+unfolding taken-out
 head-first [] h = absurd (omega arith)
 head-first (x ∷ l) h = refl
 

@@ -15,7 +15,7 @@ use Rattle.rules.proofs.Sums.{sum-over}
 use Rattle.rules.specs.Numbers.{base-slots, base-sems}
 use Rattle.rules.specs.Machine as book
 use Rattle.rules.specs.Machine.{Process, Waiter, living, living-of, at, line, nucleus, nucleus-waits}
-use Rattle.lines.specs.Lines.{InSlots, occ, inLines, membersOf}
+use Rattle.lines.specs.Lines.{InSlots, occ, in-lines, members-of}
 use Rattle.lines.proofs.Occ.{occ-append, one-same, length-occ, tally-le, tally-ones}
 use Rattle.lines.proofs.Members.{members-seated}
 use Rattle.lines.proofs.Laws.{line-size}
@@ -96,7 +96,7 @@ pub record Waits (m : Tables) (s : ℕ) : Type 0 where
 
 -- the slot stands in a nucleus line, a sub-device's or the pseudo-clock's
 abbrev pub at-nucleus : Tables → ℕ → Bool
-at-nucleus m = inLines (m .lines) (base-sems + 1) last-code
+at-nucleus m = in-lines (m .lines) (base-sems + 1) last-code
 
 module _ (m : Tables) (g : Shape m) where
   pub seats-slots : InSlots base-slots (seats m)
@@ -150,7 +150,7 @@ module _ (m : Tables) (g : Shape m) where
   room-both = omega (arith, few, sizes)
 
   -- the living of a customer, slot by slot
-  pub members : (c : ℕ) → living-of c (view m) ≡ membersOf base-slots (m .ids) (m .customers) c
+  pub members : (c : ℕ) → living-of c (view m) ≡ members-of base-slots (m .ids) (m .customers) c
   members c =
       ap (sum (λ (p : Process). count (eqb c (p .customer)))) (seats-living m)
       ∙ sum-over (λ (p : Process). count (eqb c (p .customer))) (row m) (seats m)

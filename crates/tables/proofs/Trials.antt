@@ -12,7 +12,7 @@ use borrow.Author.Tests.{eqb-true, leb-true, ltb-true, eq-eqb, lt-ltb}
 use Rattle.rules.specs.Words.{All}
 use Rattle.rules.proofs.Cases.{and-left, and-right}
 use Rattle.rules.specs.Numbers.{base-slots, base-sems, base-customers, time-limit}
-use Rattle.lines.specs.Lines.{Line, occ, entry, tally, takenMask}
+use Rattle.lines.specs.Lines.{Line, occ, entry, tally, mask-of-taken}
 use Rattle.tables.specs.declared.Tables.{Tables}
 use Rattle.tables.specs.Codes.{last-code}
 use Rattle.tables.specs.View.{waiters, seats, live, Shape}
@@ -137,7 +137,7 @@ machine-tests m =
     ∷ eqb (m .idle + m .ended + tally (entry (m .times)) base-slots) (m .total)
     ∷ leb (m .total) time-limit
     ∷ all-below (λ s. all-true (slot-tests m s)) base-slots
-    ∷ eqb (m .taken) (takenMask base-slots (m .ids))
+    ∷ eqb (m .taken) (mask-of-taken base-slots (m .ids))
     ∷ eqb (length (m .customers)) base-slots
     ∷ []
 
@@ -156,7 +156,7 @@ module _ (m : Tables) (sems : length (m .sems) ≡ base-sems) (ceilings : length
   pub tested : Shape m
   tested = record {
     ids-long = eqb-true (length (m .ids)) base-slots (whole .0);
-    taken-mask = eqb-true (m .taken) (takenMask base-slots (m .ids)) (whole .1 .1 .1 .1 .1 .1 .1 .1 .1 .1 .1 .1 .1 .0);
+    taken-mask = eqb-true (m .taken) (mask-of-taken base-slots (m .ids)) (whole .1 .1 .1 .1 .1 .1 .1 .1 .1 .1 .1 .1 .1 .0);
     parents-long = eqb-true (length (m .parents)) base-slots (whole .1 .0);
     customers-long = eqb-true (length (m .customers)) base-slots (whole .1 .1 .1 .1 .1 .1 .1 .1 .1 .1 .1 .1 .1 .1 .0);
     priorities-long = eqb-true (length (m .priorities)) base-slots (whole .1 .1 .0);
@@ -185,5 +185,5 @@ module _ (m : Tables) (sems : length (m .sems) ≡ base-sems) (ceilings : length
 
 -- to unfold this is to unfold every test
 unfoldable pub trial : Unit {0}
-unfolding laid-out all-below all-true same-list occ tally takenMask
+unfolding laid-out all-below all-true same-list occ tally mask-of-taken
 trial = tt

@@ -1,4 +1,5 @@
--- ONE MACHINE: tables that obey the rule and stand for one machine of the rule book are one; so a promise by `view` fixes the whole result.
+-- ONE MACHINE: tables that obey the rule and stand for one machine of the rule book are one; so a promise by `view`
+-- fixes the whole result.
 -- Assumes nothing.
 use mathlib.Core.Path.{_≡_, refl, sym, ap, ap₂, _∙_}
 use mathlib.Core.Bool.{Bool, true, false}
@@ -14,7 +15,7 @@ use Rattle.rules.specs.Words.{if_then_else_, first}
 use Rattle.rules.specs.Numbers.{base-slots}
 use Rattle.rules.specs.Machine as book
 use Rattle.rules.specs.Machine.{Process, Waiter, living}
-use Rattle.lines.specs.Lines.{occ, takenMask}
+use Rattle.lines.specs.Lines.{occ, mask-of-taken}
 use Rattle.lines.proofs.Laws.{line-unique}
 use Rattle.lines.proofs.Bridge.{row-at}
 use Rattle.tables.specs.declared.Tables.{Tables}
@@ -149,7 +150,7 @@ module _ (a b : Tables) (g : Shape a) (h : Shape b) (e : view a ≡ view b) wher
       let ready = line-unique (g .ready-line) (h .ready-line) readies-same in
       let waits = line-unique (g .waits-line) (h .waits-line) waiters-same in
       let ids = array (a .ids) (b .ids) (g .ids-long) (h .ids-long) ids-same in
-      let taken : a .taken ≡ b .taken = g .taken-mask ∙ ap (takenMask base-slots) ids ∙ sym (h .taken-mask) in
+      let taken : a .taken ≡ b .taken = g .taken-mask ∙ ap (mask-of-taken base-slots) ids ∙ sym (h .taken-mask) in
       let parents = array (a .parents) (b .parents) (g .parents-long) (h .parents-long) parents-same in
       let customers = array (a .customers) (b .customers) (g .customers-long) (h .customers-long) (each _ (λ s p q r. ap (λ (x : Process). x .customer) r) (λ s k x y. g .no-customer s k x ∙ sym (h .no-customer s k y))) in
       let priorities = array (a .priorities) (b .priorities) (g .priorities-long) (h .priorities-long) (each _ (λ s p q r. ap (λ (x : Process). x .priority) r) (λ s k x y. g .no-priority s k x ∙ sym (h .no-priority s k y))) in

@@ -12,9 +12,9 @@ use Rattle.rules.specs.Words.{those, front, without}
 use Rattle.rules.specs.Numbers.{base-slots}
 use Rattle.rules.specs.Machine.{Process, Waiter, with-lines, at, line, wake}
 use Rattle.rules.specs.Answers.{mask}
-use Rattle.lines.specs.Lines.{occ, one, removeAt, removed, firstWhere, inLines}
+use Rattle.lines.specs.Lines.{occ, one, taken-out, removed, first-where, in-lines}
 use Rattle.lines.specs.declared.Found.the-variants.{At, Nothing}
-use Rattle.lines.proofs.Occ.{one-same, one-other, occ-snoc, occ-removeAt}
+use Rattle.lines.proofs.Occ.{one-same, one-other, occ-snoc, occ-taken-out}
 use Rattle.lines.proofs.Laws.{line-size, push-view, push-line, removed-view, removed-line, first-in}
 use Rattle.lines.proofs.Bridge.{without-map, without-same, front-map, occ-at, map-apart, found-front, found-without, found-nobody, found-none}
 use Rattle.tables.specs.declared.Tables.{Tables}
@@ -31,7 +31,7 @@ awake m i = put-places (m .running) (set (m .ready) (m .nready) (getD (m .waits)
 
 module _ (m : Tables) (g : Shape m) (c : ℕ) (lo : 1 ≤ c) (hi : c ≤ last-code) where
   abbrev in-line : ℕ → Bool
-  in-line = inLines (m .lines) c c
+  in-line = in-lines (m .lines) c c
 
   waits-at : (s : ℕ) → Waits m s → at (decode c) (waiter m s) ≡ in-line s
   waits-at s w = at-line m g c lo hi s w ∙ sym (one-code c (getD (m .lines) s 0))
@@ -42,7 +42,7 @@ module _ (m : Tables) (g : Shape m) (c : ℕ) (lo : 1 ≤ c) (hi : c ≤ last-co
       without-map (at (decode c)) (waiter m) (waiters m)
       ∙ ap (map (waiter m)) (without-same (Waits m) (λ s. at (decode c) (waiter m s)) in-line waits-at (waiters m) (waiting m g))
 
-  pub wake-none : firstWhere in-line 0 (waiters m) ≡ Nothing → Wakes (decode c) m (record { tables = m; woken = 0 })
+  pub wake-none : first-where in-line 0 (waiters m) ≡ Nothing → Wakes (decode c) m (record { tables = m; woken = 0 })
   unfolding wake mask
   wake-none e =
       let none : line (decode c) (view m) ≡ [] = line-of m g (decode c) in-line waits-at ∙ ap (map (row m)) (found-none in-line (waiters m) 0 e) in
@@ -57,7 +57,7 @@ module _ (m : Tables) (g : Shape m) (c : ℕ) (lo : 1 ≤ c) (hi : c ≤ last-co
         shape = g;
       }
 
-  module _ (i : ℕ) (e : firstWhere in-line 0 (waiters m) ≡ At i) where
+  module _ (i : ℕ) (e : first-where in-line 0 (waiters m) ≡ At i) where
     abbrev s : ℕ
     s = getD (m .waits) i 0
 
@@ -89,11 +89,11 @@ module _ (m : Tables) (g : Shape m) (c : ℕ) (lo : 1 ≤ c) (hi : c ≤ last-co
     joins : readies r ≡ readies m ++ (s ∷ [])
     joins = push-view base-slots (m .ready) (m .nready) s (g .ready-line) wake-room
 
-    leaves : waiters r ≡ removeAt i (waiters m)
+    leaves : waiters r ≡ taken-out i (waiters m)
     leaves = removed-view base-slots (m .waits) (m .nwaits) i (g .waits-line) found-place
 
     counted : (x : ℕ) → occ x (waiters r) + one s x ≡ occ x (waiters m)
-    counted x = omega (arith, ap (occ x) leaves, occ-removeAt x i (waiters m) long, ap (λ y. one y x) read)
+    counted x = omega (arith, ap (occ x) leaves, occ-taken-out x i (waiters m) long, ap (λ y. one y x) read)
 
     gone : occ s (waiters r) ≡ 0
     gone = omega (arith, counted s, one-same s, waits-here .seat .once, occ-seats m s)

@@ -8,7 +8,7 @@ use Rattle.rules.specs.Machine as book
 use Rattle.rules.specs.Machine.{Process, Waiter}
 use Rattle.rules.specs.Numbers.{base-slots, base-sems, base-customers, time-limit}
 use Rattle.rules.specs.Words.{if_then_else_}
-use Rattle.lines.specs.Lines.{Line, occ, entry, tally, takenMask}
+use Rattle.lines.specs.Lines.{Line, occ, entry, tally, mask-of-taken}
 use Rattle.rules.specs.Tables as rule
 use Rattle.kin.specs.Families.{elders, Kin}
 use Rattle.tables.specs.declared.Tables.{Tables}
@@ -67,11 +67,12 @@ view m = record {
 abbrev pub live : ℕ → ℕ
 live x = if eqb x 0 then 0 else 1
 
--- how the tables are laid out: whole arrays; two lines with zeros behind them; each taken slot in one place and each free one in none;
--- a line's code exactly where a slot waits; parents alive and older; zeros in free rows; and the times of all slots, idle and ended add up
+-- how the tables are laid out: whole arrays; two lines with zeros behind them; each taken slot in one place and each
+-- free one in none; a line's code exactly where a slot waits; parents alive and older; zeros in free rows; and the
+-- times of all slots, idle and ended add up
 pub record Shape (m : Tables) : Type 0 where
   pub ids-long : length (m .ids) ≡ base-slots
-  pub taken-mask : m .taken ≡ takenMask base-slots (m .ids)
+  pub taken-mask : m .taken ≡ mask-of-taken base-slots (m .ids)
   pub parents-long : length (m .parents) ≡ base-slots
   pub customers-long : length (m .customers) ≡ base-slots
   pub priorities-long : length (m .priorities) ≡ base-slots
@@ -97,7 +98,8 @@ pub record Shape (m : Tables) : Type 0 where
   pub spent : m .idle + m .ended + tally (entry (m .times)) base-slots ≡ m .total
   pub within : m .total ≤ time-limit
 
--- THE RULE, and the one premise of every public operation: the layout, and the rule book's own rule of what it stands for
+-- THE RULE, and the one premise of every public operation: the layout, and the rule book's own rule of what it stands
+-- for
 pub record Good (m : Tables) : Type 0 where
   pub shape : Shape m
   pub tables : rule.Tables base-slots base-sems base-customers (view m)

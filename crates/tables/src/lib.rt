@@ -1,5 +1,7 @@
-// The tables of a machine, and what happens to them: a gap is charged, somebody runs next, waits, becomes ready or ends.
-// The fields are public to the product's own crates alone; a host has a machine of crates/desk, whose tables are private.
+// The tables of a machine, and what happens to them: a gap is charged, somebody runs next, waits, becomes ready or
+// ends.
+// The fields are public to the product's own crates alone; a host has a machine of crates/desk, whose tables are
+// private.
 use rules::Answer;
 use rules::CUSTOMERS;
 use rules::DEVICES;
@@ -12,8 +14,8 @@ mod kills;
 mod lines_of;
 mod schedules;
 
-// Codes of lines: first the semaphores', then the sub-devices', then the pseudo-clock's. The nucleus lines are those from
-// the first sub-device to the pseudo-clock.
+// Codes of lines: first the semaphores', then the sub-devices', then the pseudo-clock's. The nucleus lines are those
+// from the first sub-device to the pseudo-clock.
 pub const LAST_SEMAPHORE: u8 = SEMAPHORES as u8;
 
 pub const FIRST_DEVICE: u8 = LAST_SEMAPHORE + 1;
@@ -28,9 +30,9 @@ pub const HALTED: u8 = 1;
 pub const PANICKED: u8 = 2;
 
 // By slot: ids (0 is free), with the taken slots as a mask beside them; the parent's slot and one more (0 is none),
-// customers, priorities, handles, times, and the code of the line that a slot waits in (0 is none). The ready line and the
-// waiting, slots in order, each with its length. Who runs (the number of slots stands for nobody). By customer: how many it
-// may have alive. Free rows and unused places are zero.
+// customers, priorities, handles, times, and the code of the line that a slot waits in (0 is none). The ready line and
+// the waiting, slots in order, each with its length. Who runs (the number of slots stands for nobody). By customer: how
+// many it may have alive. Free rows and unused places are zero.
 pub struct Tables {
     pub ids: [u32; SLOTS],
     pub taken: u64,

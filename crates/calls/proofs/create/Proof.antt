@@ -5,7 +5,7 @@ use Prim.Native.Nat.{_<_}
 use native.Mathlib.Omega.{arith}
 use borrow.Author.Needs.{needs}
 use Rattle.rules.specs.Numbers.{base-slots, base-customers}
-use Rattle.lines.specs.Lines.{firstWhere, isZero}
+use Rattle.lines.specs.Lines.{first-where, is-zero}
 use Rattle.lines.specs.declared.Found.the-variants.{At}
 use Rattle.tables.proofs.Seats.{room-beside}
 use Rattle.calls.proofs.Newborns.{bit-fits}
@@ -87,7 +87,7 @@ below c =
     sym (asked at-at-ceiling) ∙ c .if2 .left
 
 -- the slot that was found
-found : (c : tie.After-known-told) → firstWhere isZero 0 (start (c .before .before .before .before .before) .args .t1 .ids) ≡ At (c .before .s .given .0 .0)
+found : (c : tie.After-known-told) → first-where is-zero 0 (start (c .before .before .before .before .before) .args .t1 .ids) ≡ At (c .before .s .given .0 .0)
 found c =
     let at-s = before-known-told c in
     let at-lowest-free = before-s at-s in

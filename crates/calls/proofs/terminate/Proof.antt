@@ -5,7 +5,7 @@ use native.Mathlib.Omega.{arith}
 use borrow.Author.Needs.{needs}
 use borrow.Author.Tests.{not-true, not-false}
 use Rattle.rules.specs.Numbers.{base-slots}
-use Rattle.lines.specs.Lines.{firstWhere, isId}
+use Rattle.lines.specs.Lines.{first-where, is-id}
 use Rattle.lines.specs.declared.Found.the-variants.{At}
 use Rattle.lines.proofs.Laws.{first-in}
 use Rattle.calls.proofs.Naming.{named-pos, ends-nobody, ends-forbidden, ends-other, ends-caller}
@@ -83,11 +83,11 @@ start k = k .before .before .before .before .before .before .before .before
 abbrev slot : tie.After-known-told → ℕ
 slot k = k .before .target .given .0 .0
 
-found : (k : tie.After-known-told) → firstWhere (isId (k .before .before .before .before .before .before .named .result)) 0 (start k .args .t1 .ids) ≡ At (slot k)
+found : (k : tie.After-known-told) → first-where (is-id (k .before .before .before .before .before .before .named .result)) 0 (start k .args .t1 .ids) ≡ At (slot k)
 found k = sym (k .before .before .before .find-id .ensures) ∙ k .before .target .given .1
 
 in-slots : (k : tie.After-known-told) → slot k < base-slots
-in-slots k = omega (arith, first-in (isId (k .before .before .before .before .before .before .named .result)) (start k .args .t1 .ids) 0 (slot k) (found k), start k .pre .0 .ids-long)
+in-slots k = omega (arith, first-in (is-id (k .before .before .before .before .before .before .named .result)) (start k .args .t1 .ids) 0 (slot k) (found k), start k .pre .0 .ids-long)
 
 enum-known-target : tie.Need-enum-known-target
 enum-known-target c = search needs

@@ -44,7 +44,7 @@ returns c =
     let st = before-push at-push in
     let m = st .args .t1 in
     let g = st .pre in
-    then-schedule back (st .args .x) m (backed m) (c .schedule .result) (back-step m (g .0) (g .1)) 
+    then-schedule back (st .args .x) m (backed m) (c .schedule .result) (back-step m (g .0) (g .1))
     (subst (λ (k : Tables). Comes (schedule (st .args .x) (view k)) (c .schedule .result))
     (λ i. put-places base-slots (at-push .push .ensures .0 i) (at-push .push .ensures .1 i) (m .waits) (m .nwaits) (m .lines) m)
     (c .schedule .ensures))

@@ -50,7 +50,7 @@ returns c =
     let m = st .args .t1 in
     let g = st .pre in
     let k = st .args .code in
-    then-schedule (block (decode k)) (st .args .x) m (blocked m k) (c .schedule .result) (block-step m (g .0) (g .1) k (g .2) (g .3)) 
+    then-schedule (block (decode k)) (st .args .x) m (blocked m k) (c .schedule .result) (block-step m (g .0) (g .1) k (g .2) (g .3))
     (subst (λ (j : Tables). Comes (schedule (st .args .x) (view j)) (c .schedule .result))
     (λ i. put-places base-slots (m .ready) (m .nready) (at-push .push .ensures .0 i) (at-push .push .ensures .1 i) (set (m .lines) (m .running) k) m)
     (c .schedule .ensures))

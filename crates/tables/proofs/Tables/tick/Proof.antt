@@ -5,8 +5,8 @@ use Prim.Native.Nat.{ℕ, _-_, _<_}
 use lib.Dec.{eqb}
 use Rattle.tables.proofs.Ticking.{tick-room, tick-is}
 use Rattle.rules.specs.Numbers.{base-slots}
-use Rattle.lines.specs.Lines.{marked, alive, entry, marksAt}
-use Rattle.lines.proofs.Marks.{getD-marksAt}
+use Rattle.lines.specs.Lines.{marked, alive, entry, marks-of}
+use Rattle.lines.proofs.Marks.{getD-marks-of}
 use Rattle.lines.proofs.Laws.{keep-le, line-size}
 use Rattle.tables.specs.Codes.{last-code}
 use Rattle.tables.specs.declared.Tables.{Tables}
@@ -34,8 +34,8 @@ before-drop-marked c = c .before .before .before
 abbrev before-strike-bytes : tie.After-strike-bytes → tie.After-drop-marked
 before-strike-bytes c = c .before .before .before
 
-clock-marks : (m : Tables) → Shape m → (s : ℕ) → s < base-slots → marked (marksAt (m .lines) last-code) s ≡ eqb (entry (m .lines) s) last-code
-clock-marks m g s b = getD-marksAt (m .lines) last-code s (omega (arith, g .lines-long))
+clock-marks : (m : Tables) → Shape m → (s : ℕ) → s < base-slots → marked (marks-of (m .lines) last-code) s ≡ eqb (entry (m .lines) s) last-code
+clock-marks m g s b = getD-marks-of (m .lines) last-code s (omega (arith, g .lines-long))
 
 marks-at-requires : tie.Need-marks-at-requires
 marks-at-requires c κs = search needs
@@ -50,7 +50,7 @@ append-marked-requires c κs =
     let st = before-marks-at at-marks-at in
     let m = st .args .t1 in
     let g = st .pre in
-    let room = tick-room m g (marksAt (m .lines) last-code) (clock-marks m g) in
+    let room = tick-room m g (marks-of (m .lines) last-code) (clock-marks m g) in
     (g .waits-line .room, g .ready-line .long, g .waits-line .long, g .waits-line .slots, rw (at-marks-at .marks-at .ensures) room)
 
 drop-marked-requires : tie.Need-drop-marked-requires
@@ -77,7 +77,7 @@ returns c =
     let m = c .before .before .before .before .before .before .before .before .before .before .before .before .before .before .before .before .args .t1 in
     let g = c .before .before .before .before .before .before .before .before .before .before .before .before .before .before .before .before .pre in
     rw (c .strike-bytes .ensures, c .before .before .before .drop-marked .ensures .0, c .before .before .before .drop-marked .ensures .1, c .before .before .before .before .before .before .append-marked .ensures, c .before .before .before .before .before .before .before .before .before .before .before .mask .ensures, c .before .before .before .before .before .before .before .before .before .before .before .before .before .marks-at .ensures)
-    (tick-is m g (marksAt (m .lines) last-code) (clock-marks m g))
+    (tick-is m g (marks-of (m .lines) last-code) (clock-marks m g))
 
 pub tick-spec : {M : Type 1} → statement M
 tick-spec =
