@@ -1,5 +1,5 @@
 # Names, in the text of the proved desk's module, the part that each instruction belongs to, as the file of its debug line,
-# for a profile to read: the crate of its function ("searches" for those of the leaves), "moves" for a move of a whole
+# for a profile to read: the crate of its function ("desk" for its rooms, "searches" for those of the leaves), "moves" for a move of a whole
 # machine, "answers" for any smaller move. The code stays as it is.
 
 function add(text) {
@@ -24,6 +24,7 @@ function place(name) {
 function part_of(name) {
     if (name ~ /^lines::(find|lowest|marks)/) return "searches"
     sub(/::.*/, "", name)
+    if (name ~ /^(kin|answers|verdicts|tables|calls|events|looks)$/) return "desk"
     return name == "std" ? "replay" : name
 }
 

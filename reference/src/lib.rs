@@ -8,3 +8,4 @@ mod kin;
 pub mod line;
 pub mod log;
 pub mod rng;
+pub mod sleep;
