@@ -1,0 +1,5 @@
+-- Why the code does what the rule book says.
+pub mod Pages
+pub mod Refusals
+pub mod Reports
+pub mod Unique

@@ -1,0 +1,3 @@
+-- Laws of rows, over plain lists.
+pub mod Search
+pub mod Ends
