@@ -7,5 +7,6 @@ pub mod generate;
 mod kin;
 pub mod line;
 pub mod log;
+pub mod pager;
 pub mod rng;
 pub mod sleep;
