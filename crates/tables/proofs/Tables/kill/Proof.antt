@@ -36,6 +36,10 @@ before-strike-bytes2 c = c .before .before .before
 abbrev before-strike2 : tie.After-strike2 → tie.After-strike-bytes2
 before-strike2 c = c .before .before .before
 
+-- from behind the second strike to where the function starts
+abbrev from-strike2 : tie.After-strike2 → tie.Start
+from-strike2 c = before-family (before-mask (before-toll (before-spared (before-strike (before-strike-bytes (before-strike-bytes2 (before-strike2 c)))))))
+
 abbrev before-doomed8 : tie.After-doomed8 → tie.After-strike2
 before-doomed8 c = c .before .before
 
@@ -113,28 +117,14 @@ strike-requires-2 c κs = search needs
 strike-requires-3 : tie.Need-strike-requires-3
 strike-requires-3 c κs =
     let at-strike2 = before-doomed8 c in
-    let at-strike-bytes2 = before-strike2 at-strike2 in
-    let at-strike-bytes = before-strike-bytes2 at-strike-bytes2 in
-    let at-strike = before-strike-bytes at-strike-bytes in
-    let at-spared = before-strike at-strike in
-    let at-toll = before-spared at-spared in
-    let at-mask = before-toll at-toll in
-    let at-family = before-mask at-mask in
-    let st = before-family at-family in
+    let st = from-strike2 at-strike2 in
     st .pre .0 .handles-long
 
 strike-times-requires : tie.Need-strike-times-requires
 strike-times-requires c κs =
     let at-strike3 = before-doomed9 c in
     let at-strike2 = before-strike3 at-strike3 in
-    let at-strike-bytes2 = before-strike2 at-strike2 in
-    let at-strike-bytes = before-strike-bytes2 at-strike-bytes2 in
-    let at-strike = before-strike-bytes at-strike-bytes in
-    let at-spared = before-strike at-strike in
-    let at-toll = before-spared at-spared in
-    let at-mask = before-toll at-toll in
-    let at-family = before-mask at-mask in
-    let st = before-family at-family in
+    let st = from-strike2 at-strike2 in
     st .pre .0 .times-long
 
 strike-bytes-requires-3 : tie.Need-strike-bytes-requires-3
@@ -142,14 +132,7 @@ strike-bytes-requires-3 c κs =
     let at-strike-times = before-doomed10 c in
     let at-strike3 = before-strike-times at-strike-times in
     let at-strike2 = before-strike3 at-strike3 in
-    let at-strike-bytes2 = before-strike2 at-strike2 in
-    let at-strike-bytes = before-strike-bytes2 at-strike-bytes2 in
-    let at-strike = before-strike-bytes at-strike-bytes in
-    let at-spared = before-strike at-strike in
-    let at-toll = before-spared at-spared in
-    let at-mask = before-toll at-toll in
-    let at-family = before-mask at-mask in
-    let st = before-family at-family in
+    let st = from-strike2 at-strike2 in
     st .pre .0 .lines-long
 
 drop-marked-requires : tie.Need-drop-marked-requires
@@ -158,14 +141,7 @@ drop-marked-requires c κs =
     let at-strike-times = before-strike-bytes3 at-strike-bytes3 in
     let at-strike3 = before-strike-times at-strike-times in
     let at-strike2 = before-strike3 at-strike3 in
-    let at-strike-bytes2 = before-strike2 at-strike2 in
-    let at-strike-bytes = before-strike-bytes2 at-strike-bytes2 in
-    let at-strike = before-strike-bytes at-strike-bytes in
-    let at-spared = before-strike at-strike in
-    let at-toll = before-spared at-spared in
-    let at-mask = before-toll at-toll in
-    let at-family = before-mask at-mask in
-    let st = before-family at-family in
+    let st = from-strike2 at-strike2 in
     let l = st .pre .0 .ready-line in
     (l .room, l .long, l .slots)
 
@@ -176,14 +152,7 @@ drop-marked-requires-2 c κs =
     let at-strike-times = before-strike-bytes3 at-strike-bytes3 in
     let at-strike3 = before-strike-times at-strike-times in
     let at-strike2 = before-strike3 at-strike3 in
-    let at-strike-bytes2 = before-strike2 at-strike2 in
-    let at-strike-bytes = before-strike-bytes2 at-strike-bytes2 in
-    let at-strike = before-strike-bytes at-strike-bytes in
-    let at-spared = before-strike at-strike in
-    let at-toll = before-spared at-spared in
-    let at-mask = before-toll at-toll in
-    let at-family = before-mask at-mask in
-    let st = before-family at-family in
+    let st = from-strike2 at-strike2 in
     let l = st .pre .0 .waits-line in
     (l .room, l .long, l .slots)
 
