@@ -1,7 +1,8 @@
 //! How often each kind of event, answer and situation comes up over some seeds.
 
 use crate::desk::{
-    Action, Answer, Call, Desk, Event, Interrupt, Kind, Mode, Process, CUSTOMERS, GAP_MAX, SLOTS, VALUE_MAX,
+    Action, Answer, Call, Desk, Event, Interrupt, Kind, Mode, Process, CUSTOMERS, GAP_MAX, PROCESSORS, SLOTS,
+    VALUE_MAX,
 };
 use crate::kin::Kin;
 use crate::log::{Log, LogRefusal, Reason, Start};
@@ -39,10 +40,23 @@ const NAMES: &[(&str, &[&str])] = &[
     ("line", &["1", "2", "3", "4", "5", "6", "7", "odd"]),
     ("interrupt", &["no byte", "several bits", "wanted", "unwanted", "nobody running"]),
     ("interrupt", &["receipt first", "wait again"]),
-    ("log", &["whole", "20", "21", "22", "23", "24", "25", "26", "27"]),
+    ("log", &["whole", "20", "21", "22", "23", "24", "25", "26", "27", "29"]),
     ("start", &["customer 0 alone", "sum of all slots", "sum below that", "24 and not 27"]),
     ("start", &["27 for ceiling 0", "27 for the sum", "27 for a sum that wraps"]),
-    ("refusal", &["0", "1", "2", "4", "5", "6"]),
+    ("start", &["one processor", "several", "eight", "27 and not 29", "29 for none", "29 above 8"]),
+    ("processors", &["idle one started by a tick", "idle one started by a device", "wait beside a runner"]),
+    (
+        "processors",
+        &["wait for a nucleus line alone", "idle beside a filled line", "wake beside an idle one"],
+    ),
+    ("processors", &["newborn beside an idle one", "left idle by a kill", "left idle by a death"]),
+    (
+        "processors",
+        &["several left idle", "left idle, someone ready", "left idle beside halt", "spared elsewhere"],
+    ),
+    ("processors", &["idle gap of the killed", "clock behind another's", "back, and not behind another's"]),
+    ("processors", &["as many run as there are", "number of them, or above", "panic, all idle"]),
+    ("refusal", &["0", "1", "2", "4", "5", "6", "7"]),
     ("P", &["through", "waits", "odd number"]),
     ("V", &["raises", "wakes", "at the top", "odd number"]),
     ("I/O", &["waits", "odd number"]),
@@ -102,6 +116,7 @@ impl Count {
         let mut desk = start.desk();
         let (mut killer, mut spared) = (None, None);
         let mut denied = [false; CUSTOMERS];
+        let mut killed = 0;
         for event in events {
             match event {
                 Ok(event) => {
@@ -109,10 +124,12 @@ impl Count {
                     let answer = desk.event(&event);
                     self.event(&before, &event, &answer);
                     let awaited = self.turn("the killer's turn", killer, &answer);
-                    killer = goes_behind(&before, &answer).or(awaited);
+                    killer = goes_behind(&before, &event, &answer).or(awaited);
                     let awaited = self.turn("the spared one's turn", spared, &answer);
                     spared = is_spared(&before, &event, &answer).or(awaited);
                     self.place(&mut denied, &before, &event, &answer);
+                    self.processors(&before, &event, &answer, &desk);
+                    self.killed(&mut killed, &event, &answer);
                 }
                 Err(refusal) => return self.add("log", refusal.reason as u8),
             }
@@ -131,6 +148,9 @@ impl Count {
         let bad = start.ceilings[0] == 0 || sum > SLOTS;
         match refusal.map(|refusal| refusal.reason) {
             Some(Reason::ValueTooLarge) if bad => self.add("start", "24 and not 27"),
+            Some(Reason::BadCeilings) if number_is_bad(start) => self.add("start", "27 and not 29"),
+            Some(Reason::BadProcessors) if start.processors == 0 => self.add("start", "29 for none"),
+            Some(Reason::BadProcessors) => self.add("start", "29 above 8"),
             Some(Reason::BadCeilings) if start.ceilings[0] == 0 => self.add("start", "27 for ceiling 0"),
             Some(Reason::BadCeilings) if sum % 65_536 <= SLOTS => {
                 self.add("start", "27 for a sum that wraps")
@@ -141,14 +161,120 @@ impl Count {
             _ if sum == SLOTS => self.add("start", "sum of all slots"),
             _ => self.add("start", "sum below that"),
         }
+        if refusal.is_none() {
+            self.add(
+                "start",
+                match usize::from(start.processors) {
+                    1 => "one processor",
+                    PROCESSORS => "eight",
+                    _ => "several",
+                },
+            );
+        }
+    }
+
+    /// What several processors make of an event.
+    fn processors(&mut self, before: &Desk, event: &Event, answer: &Answer, after: &Desk) {
+        if usize::from(event.processor) >= before.processors.len() {
+            return self.add("processors", "number of them, or above");
+        }
+        self.clocks_apart(before, event, answer);
+        if answer.refusal.is_none() {
+            self.scheduled(before, event, answer, after);
+            self.idle_ones(before, answer, after);
+            self.left_idle(event, answer, after);
+        }
+        let spared = is_spared(before, event, answer);
+        if spared.is_some_and(|slot| before.runners().any(|runner| runner == slot)) {
+            self.add("processors", "spared elsewhere");
+        }
+    }
+
+    /// A clock that is behind another processor's is accepted; one behind its own is not.
+    fn clocks_apart(&mut self, before: &Desk, event: &Event, answer: &Answer) {
+        let at = usize::from(event.processor);
+        let others = before.processors.iter().enumerate().filter(|&(other, _)| other != at);
+        let behind = others.clone().any(|(_, other)| event.clock.wrapping_sub(other.clock) > GAP_MAX);
+        match answer.refusal.map(|refusal| refusal as u8) {
+            None if behind => self.add("processors", "clock behind another's"),
+            Some(2) if others.count() > 0 && !behind => {
+                self.add("processors", "back, and not behind another's")
+            }
+            _ => {}
+        }
+    }
+
+    fn scheduled(&mut self, before: &Desk, event: &Event, answer: &Answer, after: &Desk) {
+        let idle = before.running_at(event.processor).is_none();
+        let name = match (answer.action, &event.kind) {
+            (Action::Run(_), Kind::Interrupt(Interrupt { line: 2, .. })) if idle => {
+                "idle one started by a tick"
+            }
+            (Action::Run(_), Kind::Interrupt(_)) if idle => "idle one started by a device",
+            (Action::Wait, _) if after.runners().next().is_some() => "wait beside a runner",
+            (Action::Wait, _) => "wait for a nucleus line alone",
+            (Action::Panic, _) if after.processors.len() > 1 => "panic, all idle",
+            _ => return,
+        };
+        self.add("processors", name);
+    }
+
+    fn idle_ones(&mut self, before: &Desk, answer: &Answer, after: &Desk) {
+        let some_idle = |desk: &Desk| desk.runners().count() < desk.processors.len();
+        if after.processors.len() > 1 && !some_idle(after) {
+            self.add("processors", "as many run as there are");
+        }
+        if after.over || !some_idle(after) {
+            return;
+        }
+        if !after.ready.is_empty() {
+            self.add("processors", "idle beside a filled line");
+        }
+        if answer.woken != 0 && some_idle(before) {
+            self.add("processors", "wake beside an idle one");
+        }
+        if answer.newborn.is_some() {
+            self.add("processors", "newborn beside an idle one");
+        }
+    }
+
+    fn left_idle(&mut self, event: &Event, answer: &Answer, after: &Desk) {
+        if answer.left_idle == 0 {
+            return;
+        }
+        let call = |call: &Call| call.mode == Mode::Kernel && call.a0 == -2 && call.a1 != 0;
+        let kill = matches!(&event.kind, Kind::Call(named) if call(named));
+        self.add("processors", if kill { "left idle by a kill" } else { "left idle by a death" });
+        if answer.left_idle.count_ones() > 1 {
+            self.add("processors", "several left idle");
+        }
+        if !after.ready.is_empty() {
+            self.add("processors", "left idle, someone ready");
+        }
+        if answer.action == Action::Halt {
+            self.add("processors", "left idle beside halt");
+        }
+    }
+
+    /// "a gap during which such a kill came is wholly idle": the next accepted event on a processor
+    /// that a kill left idle.
+    fn killed(&mut self, killed: &mut u8, event: &Event, answer: &Answer) {
+        if answer.refusal.is_some() {
+            return;
+        }
+        if *killed >> event.processor & 1 == 1 {
+            self.add("processors", "idle gap of the killed");
+        }
+        *killed = *killed & !(1 << event.processor) | answer.left_idle;
     }
 
     fn event(&mut self, before: &Desk, event: &Event, answer: &Answer) {
         let accepted = answer.refusal.is_none();
         self.add("refusal", answer.refusal.map_or(0, |refusal| refusal as u8));
         self.add("action", line::action(answer.action).0);
-        if !before.over {
-            self.clock(before.clock, event.clock);
+        let processor = before.processors.get(usize::from(event.processor));
+        if let Some(processor) = processor.filter(|_| !before.over) {
+            self.clock(processor.clock, event.clock);
         }
         match &event.kind {
             Kind::Call(call) => self.call(call),
@@ -158,8 +284,13 @@ impl Count {
             Kind::Exception { .. } => self.add("exception", "trap"),
         }
         match &event.kind {
-            Kind::Call(call) if accepted && call.mode == Mode::Kernel => self.service(before, call, answer),
-            Kind::Interrupt(interrupt) if accepted => self.interrupt(before, interrupt, answer),
+            Kind::Call(call) if accepted && call.mode == Mode::Kernel => {
+                let caller = before.running_at(event.processor).expect("a call has a caller");
+                self.service(before, caller, call, answer)
+            }
+            Kind::Interrupt(interrupt) if accepted => {
+                self.interrupt(before.running_at(event.processor).is_none(), interrupt, answer)
+            }
             _ => {}
         }
         let terminate = matches!(&event.kind, Kind::Call(call) if call.mode == Mode::Kernel && call.a0 == -2);
@@ -168,11 +299,11 @@ impl Count {
             2.. if !terminate => self.add("death", "with descendants"),
             _ => {}
         }
-        self.table(before, answer);
+        self.table(before, event, answer);
     }
 
     /// What a small table, or a mask with fewer bits, would not show.
-    fn table(&mut self, before: &Desk, answer: &Answer) {
+    fn table(&mut self, before: &Desk, event: &Event, answer: &Answer) {
         for (mask, last, many) in [
             (answer.woken, "the last slot woken", "more than 20 woken"),
             (answer.ended, "the last slot ended", "more than 20 ended"),
@@ -184,7 +315,7 @@ impl Count {
                 self.add("table", many);
             }
         }
-        let Some(caller) = before.running.filter(|_| answer.newborn.is_some()) else {
+        let Some(caller) = before.running_at(event.processor).filter(|_| answer.newborn.is_some()) else {
             return;
         };
         if before.alive() == SLOTS - 1 {
@@ -233,11 +364,11 @@ impl Count {
     }
 
     /// An accepted call in kernel mode.
-    fn service(&mut self, before: &Desk, call: &Call, answer: &Answer) {
+    fn service(&mut self, before: &Desk, caller: usize, call: &Call, answer: &Answer) {
         let number = call.a1 as usize;
         match call.a0 {
-            -1 => self.create(before, call, answer),
-            -2 => self.terminate(before, call, answer),
+            -1 => self.create(before, caller, call, answer),
+            -2 => self.terminate(before, caller, call, answer),
             -3 if number > 31 => self.add("P", "odd number"),
             -3 if before.values[number] > 0 => self.add("P", "through"),
             -3 => self.add("P", "waits"),
@@ -251,8 +382,7 @@ impl Count {
         }
     }
 
-    fn create(&mut self, before: &Desk, call: &Call, answer: &Answer) {
-        let caller = before.running.expect("a call has a caller");
+    fn create(&mut self, before: &Desk, caller: usize, call: &Call, answer: &Answer) {
         let own = before.process(caller).customer;
         let named = call.a2 / 256;
         let customer = before.child_customer(caller, call.a2);
@@ -298,7 +428,7 @@ impl Count {
         let Event { kind: Kind::Call(Call { mode: Mode::Kernel, a0: -1, a2, .. }), .. } = *event else {
             return;
         };
-        let caller = before.running.filter(|_| answer.refusal.is_none());
+        let caller = before.running_at(event.processor).filter(|_| answer.refusal.is_none());
         let customer = caller.map(|caller| before.child_customer(caller, a2));
         let Some(customer) = customer.filter(|&customer| customer < CUSTOMERS) else {
             return;
@@ -310,8 +440,7 @@ impl Count {
         denied[customer] = !granted;
     }
 
-    fn terminate(&mut self, before: &Desk, call: &Call, answer: &Answer) {
-        let caller = before.running.expect("a call has a caller");
+    fn terminate(&mut self, before: &Desk, caller: usize, call: &Call, answer: &Answer) {
         let named = if call.a1 == 0 { Some(caller) } else { before.find(call.a1) };
         if let Some(named) = named {
             self.named(before, before.process(caller), before.process(named));
@@ -359,9 +488,9 @@ impl Count {
     }
 
     /// An accepted interrupt.
-    fn interrupt(&mut self, before: &Desk, interrupt: &Interrupt, answer: &Answer) {
+    fn interrupt(&mut self, idle: bool, interrupt: &Interrupt, answer: &Answer) {
         let Interrupt { line, first, second } = *interrupt;
-        if before.running.is_none() {
+        if idle {
             self.add("interrupt", "nobody running");
             if answer.woken == 0 {
                 self.add("interrupt", "wait again");
@@ -385,8 +514,14 @@ impl Count {
 }
 
 /// A killer that survives and goes behind others.
-fn goes_behind(before: &Desk, answer: &Answer) -> Option<usize> {
-    before.running.filter(|&slot| answer.killer_survives() && answer.action != Action::Run(slot))
+fn goes_behind(before: &Desk, event: &Event, answer: &Answer) -> Option<usize> {
+    before
+        .running_at(event.processor)
+        .filter(|&slot| answer.killer_survives() && answer.action != Action::Run(slot))
+}
+
+fn number_is_bad(start: &Start) -> bool {
+    !(1..=PROCESSORS).contains(&usize::from(start.processors))
 }
 
 /// One that is alive and was named by a terminate that gave −1.
@@ -401,81 +536,108 @@ fn is_spared(before: &Desk, event: &Event, answer: &Answer) -> Option<usize> {
 mod tests {
     use super::*;
 
-    /// `generate --count 1..400` prints these and more: 112,647 events in 400 logs.
+    /// `generate --count 1..400` prints these and more: 105,575 events in 400 logs.
     const AT_THE_GATE: &[(&str, u64)] = &[
-        ("refusal: 0", 89_489),
-        ("refusal: 1", 11_173),
-        ("refusal: 2", 7_538),
-        ("refusal: 4", 1_378),
-        ("refusal: 5", 1_980),
-        ("refusal: 6", 1_089),
-        ("action: on", 50_136),
-        ("action: run", 30_992),
-        ("action: wait", 2_499),
-        ("action: halt", 22),
-        ("action: panic", 10),
-        ("action: up0", 825),
-        ("action: up1", 5_005),
-        ("terminate: another, others ready", 970),
-        ("terminate: another, nobody else ready", 222),
-        ("terminate: the killer's turn", 556),
-        ("terminate: hands off, others ready", 1_567),
-        ("terminate: hands off, nobody else ready", 193),
-        ("terminate: the spared one's turn", 416),
-        ("named by customer 0: itself", 213),
-        ("named by customer 0: a child", 316),
-        ("named by customer 0: a deeper descendant", 109),
-        ("named by customer 0: an ancestor", 74),
-        ("named by customer 0: a sibling", 175),
-        ("named by customer 0: a cousin", 129),
-        ("named by customer 0: another customer's", 102),
-        ("named by another: itself", 510),
-        ("named by another: a child", 307),
-        ("named by another: a deeper descendant", 54),
-        ("named by another: an ancestor", 291),
-        ("named by another: an ancestor of customer 0", 225),
-        ("named by another: a sibling", 409),
-        ("named by another: a cousin", 453),
-        ("named by another: another of customer 0", 118),
-        ("named by another: another customer's", 264),
-        ("create: customer 0 for itself", 8_315),
-        ("create: customer 0 for another", 3_484),
-        ("create: another, whatever a2 says", 4_896),
-        ("create: another, though a2 / 256 is above 8", 306),
-        ("create: beside a customer at its ceiling", 3_971),
-        ("create: the last place", 1_761),
-        ("create: a place given back", 1_025),
-        ("create: in the last slot", 115),
-        ("denied: customer 0 for itself", 1_727),
-        ("denied: customer 0 for another", 904),
-        ("denied: another for itself", 4_977),
-        ("denied: ceiling 0", 333),
-        ("denied: 9 to 255 named", 151),
-        ("denied: 256 or more named", 261),
-        ("denied: slots free", 5_706),
-        ("denied: no slot free", 2_235),
-        ("table: a newborn with more than 20 ancestors", 867),
-        ("table: all slots taken", 393),
-        ("table: more than 20 ended", 78),
-        ("table: more than 20 woken", 12),
-        ("table: the last slot ended", 45),
-        ("table: the last slot woken", 14),
-        ("start: customer 0 alone", 77),
-        ("start: sum of all slots", 183),
-        ("start: sum below that", 49),
-        ("start: 24 and not 27", 11),
-        ("start: 27 for ceiling 0", 4),
-        ("start: 27 for the sum", 13),
-        ("start: 27 for a sum that wraps", 11),
-        ("log: whole", 209),
-        ("log: 20", 19),
-        ("log: 21", 14),
+        ("refusal: 0", 87_887),
+        ("refusal: 1", 2_690),
+        ("refusal: 2", 7_985),
+        ("refusal: 4", 2_679),
+        ("refusal: 5", 1_625),
+        ("refusal: 6", 1_007),
+        ("action: on", 44_179),
+        ("action: run", 30_269),
+        ("action: wait", 8_470),
+        ("action: halt", 19),
+        ("action: panic", 5),
+        ("action: up0", 698),
+        ("action: up1", 4_247),
+        ("terminate: another, others ready", 893),
+        ("terminate: another, nobody else ready", 195),
+        ("terminate: the killer's turn", 497),
+        ("terminate: hands off, others ready", 1_749),
+        ("terminate: hands off, nobody else ready", 190),
+        ("terminate: the spared one's turn", 379),
+        ("named by customer 0: itself", 117),
+        ("named by customer 0: a child", 250),
+        ("named by customer 0: a deeper descendant", 139),
+        ("named by customer 0: an ancestor", 76),
+        ("named by customer 0: a sibling", 144),
+        ("named by customer 0: a cousin", 146),
+        ("named by customer 0: another customer's", 92),
+        ("named by another: itself", 421),
+        ("named by another: a child", 242),
+        ("named by another: a deeper descendant", 75),
+        ("named by another: an ancestor", 239),
+        ("named by another: an ancestor of customer 0", 261),
+        ("named by another: a sibling", 469),
+        ("named by another: a cousin", 512),
+        ("named by another: another of customer 0", 124),
+        ("named by another: another customer's", 334),
+        ("create: customer 0 for itself", 7_356),
+        ("create: customer 0 for another", 3_333),
+        ("create: another, whatever a2 says", 4_635),
+        ("create: another, though a2 / 256 is above 8", 349),
+        ("create: beside a customer at its ceiling", 3_717),
+        ("create: the last place", 1_614),
+        ("create: a place given back", 873),
+        ("create: in the last slot", 96),
+        ("denied: customer 0 for itself", 861),
+        ("denied: customer 0 for another", 555),
+        ("denied: another for itself", 4_523),
+        ("denied: ceiling 0", 222),
+        ("denied: 9 to 255 named", 106),
+        ("denied: 256 or more named", 198),
+        ("denied: slots free", 5_190),
+        ("denied: no slot free", 971),
+        ("table: a newborn with more than 20 ancestors", 695),
+        ("table: all slots taken", 317),
+        ("table: more than 20 ended", 59),
+        ("table: more than 20 woken", 3),
+        ("table: the last slot ended", 32),
+        ("table: the last slot woken", 10),
+        ("start: customer 0 alone", 67),
+        ("start: sum of all slots", 169),
+        ("start: sum below that", 66),
+        ("start: 24 and not 27", 12),
+        ("start: 27 for ceiling 0", 3),
+        ("start: 27 for the sum", 12),
+        ("start: 27 for a sum that wraps", 6),
+        ("log: whole", 213),
+        ("log: 20", 11),
+        ("log: 21", 16),
         ("log: 22", 38),
-        ("log: 23", 36),
+        ("log: 23", 37),
         ("log: 24", 23),
-        ("log: 25", 13),
-        ("log: 26", 20),
-        ("log: 27", 28),
+        ("log: 25", 16),
+        ("log: 26", 9),
+        ("log: 27", 24),
+        ("log: 29", 13),
+        ("processors: as many run as there are", 43_302),
+        ("processors: back, and not behind another's", 1_275),
+        ("processors: clock behind another's", 41_859),
+        ("processors: idle beside a filled line", 6_786),
+        ("processors: idle gap of the killed", 518),
+        ("processors: idle one started by a device", 2_587),
+        ("processors: idle one started by a tick", 1_000),
+        ("processors: left idle beside halt", 12),
+        ("processors: left idle by a death", 88),
+        ("processors: left idle by a kill", 359),
+        ("processors: left idle, someone ready", 307),
+        ("processors: newborn beside an idle one", 2_637),
+        ("processors: number of them, or above", 1_738),
+        ("processors: panic, all idle", 3),
+        ("processors: several left idle", 68),
+        ("processors: spared elsewhere", 513),
+        ("processors: wait beside a runner", 6_555),
+        ("processors: wait for a nucleus line alone", 1_915),
+        ("processors: wake beside an idle one", 1_455),
+        ("refusal: 7", 1_702),
+        ("start: 27 and not 29", 3),
+        ("start: 29 above 8", 9),
+        ("start: 29 for none", 4),
+        ("start: eight", 46),
+        ("start: one processor", 80),
+        ("start: several", 157),
     ];
 
     #[test]
@@ -492,16 +654,19 @@ mod tests {
 
     #[test]
     fn streams_live_long_and_lack_no_kind() {
-        let mut generator = generate::Generator::stream(1);
-        let mut stream = generator.start.to_field();
-        for _ in 0..50_000 {
-            stream.extend(generator.event().to_field());
-        }
         let mut count = Count::default();
-        count.log(log::open_stream(&stream));
+        for seed in 1..=4 {
+            let mut generator = generate::Generator::stream(seed).on_processors(3);
+            let mut stream = generator.start.to_field();
+            for _ in 0..25_000 {
+                stream.extend(generator.event().to_field());
+            }
+            count.log(log::open_stream(&stream));
+        }
         // Whether families grow deep in a stream is left to chance.
         for (name, times) in count.rows().filter(|(name, _)| !name.starts_with("table: ")) {
             let ends = ["action: halt", "action: panic", "refusal: 1"].contains(&name);
+            let ends = ends || name.ends_with("left idle beside halt") || name.ends_with("panic, all idle");
             let never = ends || name.starts_with("log: 2") || name.starts_with("start: ");
             assert_eq!(times == 0, never, "{name} came up {times} times");
         }

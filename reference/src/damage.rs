@@ -5,10 +5,11 @@ use crate::generate;
 use crate::log::{value_length, HEAD, MAX_BYTES};
 use crate::rng::Rng;
 
-/// Where a start has its values and its ceilings, and where it ends.
+/// Where a start has its values, its ceilings and its processors, and where it ends.
 const VALUES: usize = HEAD + 4;
 const CEILINGS: usize = VALUES + 4 * SEMAPHORES;
-const START: usize = CEILINGS + 2 * CUSTOMERS;
+const PROCESSORS: usize = CEILINGS + 2 * CUSTOMERS;
+const START: usize = PROCESSORS + 1;
 
 /// The log of a seed, damaged once, or twice for one seed in five.
 pub fn log(seed: u64, count: usize) -> Vec<u8> {
@@ -29,7 +30,7 @@ fn damage(rng: &mut Rng, bytes: &mut Vec<u8>) {
     // The first and the last field as often as all between them.
     let field = rng.index(fields.len());
     let field = fields[rng.pick(&[0, field, field, fields.len() - 1])];
-    match rng.below(16) {
+    match rng.below(18) {
         0 => bytes.truncate(field + rng.index(HEAD)),
         1 => bytes.truncate(field + HEAD + rng.index(value_length(bytes[field]).unwrap_or(1))),
         2 => bytes[field] = rng.pick(&[0, 5, 6, 255]),
@@ -44,9 +45,10 @@ fn damage(rng: &mut Rng, bytes: &mut Vec<u8>) {
         8 => bad_mode(rng, bytes, &fields),
         9 => flip(rng, bytes),
         10 => long(rng, bytes),
-        11 => old_start(bytes),
+        11 => old_start(rng, bytes),
         12..=14 => bad_ceilings(rng, bytes),
-        _ => bytes.truncate(rng.pick(&[0, 0, field])),
+        15 => bytes.truncate(rng.pick(&[0, 0, field])),
+        _ => bad_processors(rng, bytes),
     }
 }
 
@@ -64,12 +66,12 @@ fn fields(bytes: &[u8]) -> Vec<usize> {
     places
 }
 
-/// The start again, before a field or at the end; perhaps with a value or a ceiling too large.
+/// The start again, before a field or at the end; perhaps with a value, a ceiling or a number of processors too large.
 fn later_start(rng: &mut Rng, bytes: &mut Vec<u8>, field: usize) {
     let length = START.min(bytes.len());
     let mut start = bytes[..length].to_vec();
     if rng.one_in(2) {
-        start[rng.pick(&[CEILINGS, START]).min(length) - 1] = 255;
+        start[rng.pick(&[CEILINGS, PROCESSORS, START]).min(length) - 1] = 255;
     }
     let place = rng.pick(&[field, bytes.len()]);
     bytes.splice(place..place, start);
@@ -83,11 +85,22 @@ fn large_value(rng: &mut Rng, bytes: &mut [u8]) {
     }
 }
 
-/// A start without ceilings, and with the length of one.
-fn old_start(bytes: &mut Vec<u8>) {
+/// A start without processors, or without ceilings too, and with the length of one.
+fn old_start(rng: &mut Rng, bytes: &mut Vec<u8>) {
+    let end = rng.pick(&[CEILINGS, PROCESSORS]);
     if bytes.len() >= START {
-        bytes.drain(CEILINGS..START);
-        bytes[1] = (CEILINGS - HEAD) as u8;
+        bytes.drain(end..START);
+        bytes[1] = (end - HEAD) as u8;
+    }
+}
+
+/// A number of processors that is refused. One in four has ceilings that are refused as well.
+fn bad_processors(rng: &mut Rng, bytes: &mut [u8]) {
+    if let Some(processors) = bytes.get_mut(PROCESSORS) {
+        *processors = rng.pick(&[0, 0, 9, 16, 129, 255]);
+    }
+    if rng.one_in(4) {
+        bad_ceilings(rng, bytes);
     }
 }
 
@@ -95,7 +108,7 @@ fn old_start(bytes: &mut Vec<u8>) {
 /// more only where it wraps at 16 bits or in a byte, a single high byte. One in six has a value too
 /// large as well.
 fn bad_ceilings(rng: &mut Rng, bytes: &mut [u8]) {
-    let Some(field) = bytes.get_mut(CEILINGS..START) else {
+    let Some(field) = bytes.get_mut(CEILINGS..PROCESSORS) else {
         return;
     };
     let mut ceilings: [u16; CUSTOMERS] =
@@ -120,7 +133,7 @@ fn bad_ceilings(rng: &mut Rng, bytes: &mut [u8]) {
 fn bad_mode(rng: &mut Rng, bytes: &mut [u8], fields: &[usize]) {
     let calls: Vec<usize> = fields.iter().copied().filter(|&place| bytes[place] == 2).collect();
     if !calls.is_empty() {
-        bytes[rng.pick(&calls) + HEAD + 4] = rng.pick(&[2, 3, 128, 255]);
+        bytes[rng.pick(&calls) + HEAD + 5] = rng.pick(&[2, 3, 128, 255]);
     }
 }
 

@@ -6,6 +6,7 @@ pub const SLOTS: usize = 64;
 pub const SEMAPHORES: usize = 32;
 pub const SUB_DEVICES: usize = 48;
 pub const CUSTOMERS: usize = 9;
+pub const PROCESSORS: usize = 8;
 /// "49 nucleus waiting lines: 48 sub-devices and the pseudo-clock."
 const NUCLEUS_LINES: usize = SUB_DEVICES + 1;
 const PSEUDO_CLOCK: usize = SUB_DEVICES;
@@ -46,6 +47,8 @@ pub enum Kind {
 #[derive(Clone, Copy, Debug, PartialEq, Eq)]
 pub struct Event {
     pub clock: u32,
+    /// "Each event names its processor."
+    pub processor: u8,
     pub kind: Kind,
 }
 
@@ -58,6 +61,7 @@ pub enum Refusal {
     NobodyRunning = 4,
     BadInterrupt = 5,
     BadException = 6,
+    NoSuchProcessor = 7,
 }
 
 #[derive(Clone, Copy, Debug, PartialEq, Eq)]
@@ -86,11 +90,22 @@ pub struct Answer {
     pub sub_device: Option<usize>,
     pub woken: u64,
     pub ended: u64,
+    /// The other processors that a kill left idle, bit n for processor n.
+    pub left_idle: u8,
 }
 
 impl Answer {
     fn new(action: Action) -> Self {
-        Answer { refusal: None, action, result: None, newborn: None, sub_device: None, woken: 0, ended: 0 }
+        Answer {
+            refusal: None,
+            action,
+            result: None,
+            newborn: None,
+            sub_device: None,
+            woken: 0,
+            ended: 0,
+            left_idle: 0,
+        }
     }
 
     fn refused(refusal: Refusal) -> Self {
@@ -105,6 +120,20 @@ impl Answer {
     pub(crate) fn killer_survives(&self) -> bool {
         self.ended != 0 && self.result.is_some()
     }
+}
+
+/// "each has its own last clock reading, running process and idle time"
+#[derive(Clone, Debug, PartialEq, Eq)]
+pub(crate) struct Processor {
+    pub(crate) running: Option<usize>,
+    pub(crate) clock: u32,
+    pub(crate) idle: u64,
+}
+
+/// What a kill ended, and the processors that it took somebody from.
+struct Ended {
+    slots: u64,
+    processors: u8,
 }
 
 /// Where a process that isn't running stands.
@@ -135,6 +164,7 @@ pub(crate) struct Process {
 pub enum StartRefusal {
     ValueTooLarge = 24,
     BadCeilings = 27,
+    BadProcessors = 29,
 }
 
 #[derive(Clone, Debug, PartialEq, Eq)]
@@ -142,41 +172,42 @@ pub struct Desk {
     slots: [Option<Process>; SLOTS],
     /// How many of each customer may be alive.
     pub(crate) ceilings: [u16; CUSTOMERS],
-    pub(crate) running: Option<usize>,
+    pub(crate) processors: Vec<Processor>,
     pub(crate) ready: VecDeque<usize>,
     pub(crate) values: [u32; SEMAPHORES],
     pub(crate) semaphores: [VecDeque<usize>; SEMAPHORES],
     pub(crate) nucleus: [VecDeque<usize>; NUCLEUS_LINES],
     pub(crate) last_id: u32,
-    pub(crate) clock: u32,
-    /// The sum of accepted gaps.
+    /// The sum of accepted gaps, of all processors.
     total: u64,
-    idle: u64,
     ended_time: u64,
     /// Halted or panicked.
     pub(crate) over: bool,
 }
 
 impl Desk {
-    /// "Id 1 is then running in slot 0, with no parent and no support handle."
+    /// "Id 1 is then running in slot 0, with no parent and no support handle." "Id 1 starts on
+    /// processor 0, all clocks at the start's."
     pub fn fresh(
         clock: u32,
         values: [u32; SEMAPHORES],
         ceilings: [u16; CUSTOMERS],
+        processors: u8,
     ) -> Result<Self, StartRefusal> {
-        allow(&values, &ceilings)?;
+        allow(&values, &ceilings, processors)?;
+        let first = |number| (number == 0).then_some(0);
         let mut desk = Desk {
             slots: std::array::from_fn(|_| None),
             ceilings,
-            running: Some(0),
+            processors: (0..processors)
+                .map(|number| Processor { running: first(number), clock, idle: 0 })
+                .collect(),
             ready: VecDeque::new(),
             values,
             semaphores: Default::default(),
             nucleus: std::array::from_fn(|_| VecDeque::new()),
             last_id: 1,
-            clock,
             total: 0,
-            idle: 0,
             ended_time: 0,
             over: false,
         };
@@ -189,32 +220,39 @@ impl Desk {
     /// numbers allowed ends its id 1 at once (call −2, clock unchanged)".
     pub fn refused() -> Self {
         let least = [1, 0, 0, 0, 0, 0, 0, 0, 0];
-        let mut desk = Desk::fresh(0, [0; SEMAPHORES], least).expect("the least is allowed");
-        desk.terminate(0, 0);
+        let mut desk = Desk::fresh(0, [0; SEMAPHORES], least, 1).expect("the least is allowed");
+        desk.terminate(0, 0, 0);
         desk
     }
 
     /// Takes one event: refused, it leaves the machine as it was.
     pub fn event(&mut self, event: &Event) -> Answer {
-        let gap = event.clock.wrapping_sub(self.clock);
-        if let Some(refusal) = self.refusal(&event.kind, gap) {
+        if let Some(refusal) = self.refusal(event) {
             return Answer::refused(refusal);
         }
-        self.clock = event.clock;
-        self.charge(gap.into());
+        let at = usize::from(event.processor);
+        self.charge(at, event.clock);
         match event.kind {
-            Kind::Call(call) => self.call(self.runner(), call),
-            Kind::Interrupt(interrupt) => self.interrupt(interrupt),
-            Kind::Exception { code: 24..=28 } => self.pass_up_or_die(PassUp::Tlb),
-            Kind::Exception { .. } => self.trap(),
+            Kind::Call(call) => self.call(at, call),
+            Kind::Interrupt(interrupt) => self.interrupt(at, interrupt),
+            Kind::Exception { code: 24..=28 } => self.pass_up_or_die(at, PassUp::Tlb),
+            Kind::Exception { .. } => self.trap(at),
         }
     }
 
-    /// "Checked in the order of the rows; the first that applies is given."
-    fn refusal(&self, kind: &Kind, gap: u32) -> Option<Refusal> {
+    /// "Checked in the order of the rows; the first that applies is given." "A processor number out
+    /// of range is refused with 7, after 1; refusals 2 and 4 speak of the named processor, 3 of all
+    /// gaps together."
+    fn refusal(&self, event: &Event) -> Option<Refusal> {
         if self.over {
-            Some(Refusal::Over)
-        } else if matches!(kind, Kind::Interrupt(interrupt) if !interrupt.is_known()) {
+            return Some(Refusal::Over);
+        }
+        let Some(processor) = self.processors.get(usize::from(event.processor)) else {
+            return Some(Refusal::NoSuchProcessor);
+        };
+        let kind = &event.kind;
+        let gap = event.clock.wrapping_sub(processor.clock);
+        if matches!(kind, Kind::Interrupt(interrupt) if !interrupt.is_known()) {
             Some(Refusal::BadInterrupt)
         } else if matches!(kind, Kind::Exception { code: 8 | 11 | 29.. }) {
             Some(Refusal::BadException)
@@ -222,45 +260,50 @@ impl Desk {
             Some(Refusal::ClockBack)
         } else if self.total + u64::from(gap) > TOTAL_MAX {
             Some(Refusal::TotalFull)
-        } else if self.running.is_none() && kind.needs_runner() {
+        } else if processor.running.is_none() && kind.needs_runner() {
             Some(Refusal::NobodyRunning)
         } else {
             None
         }
     }
 
-    /// "A gap is charged, before anything else, to whoever was running, else to idle"
-    fn charge(&mut self, gap: u64) {
+    /// "A gap is charged, before anything else, to whoever was running, else to idle": "on that
+    /// processor when the event comes".
+    fn charge(&mut self, at: usize, now: u32) {
+        let processor = &mut self.processors[at];
+        let gap = u64::from(now.wrapping_sub(processor.clock));
+        processor.clock = now;
         self.total += gap;
-        match self.running {
+        match processor.running {
             Some(slot) => self.process_mut(slot).time += gap,
-            None => self.idle += gap,
+            None => processor.idle += gap,
         }
     }
 
     // Calls.
 
-    fn call(&mut self, caller: usize, call: Call) -> Answer {
+    fn call(&mut self, at: usize, call: Call) -> Answer {
+        let caller = self.runner(at);
         let Call { a1, a2, a3, .. } = call;
         let number = a1 as usize;
         let on = Action::On(caller);
         match call.a0 {
-            1.. => self.pass_up_or_die(PassUp::General),
-            _ if call.mode == Mode::User => self.trap(),
+            1.. => self.pass_up_or_die(at, PassUp::General),
+            _ if call.mode == Mode::User => self.trap(at),
             -1 => self.create(caller, a2, a3),
-            -2 => self.terminate(caller, a1),
-            -3 if number < SEMAPHORES => self.p(caller, number),
+            -2 => self.terminate(at, caller, a1),
+            -3 if number < SEMAPHORES => self.p(at, caller, number),
             -4 if number < SEMAPHORES && self.values[number] < VALUE_MAX => self.v(caller, number),
             -5 if number < SUB_DEVICES => {
-                Answer { sub_device: Some(number), ..self.leave(caller, Line::Nucleus(number)) }
+                Answer { sub_device: Some(number), ..self.leave(at, Line::Nucleus(number)) }
             }
             -6 => Answer::result(on, self.process(caller).time as i64),
-            -7 => self.leave(caller, Line::Nucleus(PSEUDO_CLOCK)),
+            -7 => self.leave(at, Line::Nucleus(PSEUDO_CLOCK)),
             -8 => Answer::result(on, self.process(caller).handle.into()),
             -9 if a1 == 0 => Answer::result(on, self.process(caller).id.into()),
             -9 => Answer::result(on, self.process(caller).parent.into()),
-            -10 => self.leave(caller, Line::Ready),
-            _ => self.trap(),
+            -10 => self.leave(at, Line::Ready),
+            _ => self.trap(at),
         }
     }
 
@@ -288,17 +331,17 @@ impl Desk {
     }
 
     /// "a1 = 0 means the caller, otherwise an id." Any other than one that may be named gives −1.
-    fn terminate(&mut self, caller: usize, id: u32) -> Answer {
+    fn terminate(&mut self, at: usize, caller: usize, id: u32) -> Answer {
         let named = if id == 0 { Some(caller) } else { self.find(id) };
         let Some(slot) = named.filter(|&slot| self.may_name(caller, slot)) else {
             return Answer::result(Action::On(caller), -1);
         };
         let ended = self.end(slot);
-        let answer = match self.running {
-            Some(_) => self.goes_behind(caller),
-            None => Answer::new(self.schedule()),
+        let answer = match self.processors[at].running {
+            Some(_) => self.goes_behind(at),
+            None => Answer::new(self.schedule(at)),
         };
-        Answer { ended, ..answer }
+        ended.tell(at, answer)
     }
 
     /// "only the caller itself or its own descendants; customer 0 may still name anyone"
@@ -309,13 +352,13 @@ impl Desk {
 
     /// "a surviving caller with a valid target goes to the end of its ready line with result 0,
     /// then schedule"
-    fn goes_behind(&mut self, caller: usize) -> Answer {
-        Answer { result: Some(0), ..self.leave(caller, Line::Ready) }
+    fn goes_behind(&mut self, at: usize) -> Answer {
+        Answer { result: Some(0), ..self.leave(at, Line::Ready) }
     }
 
-    fn p(&mut self, caller: usize, number: usize) -> Answer {
+    fn p(&mut self, at: usize, caller: usize, number: usize) -> Answer {
         if self.values[number] == 0 {
-            return self.leave(caller, Line::Semaphore(number));
+            return self.leave(at, Line::Semaphore(number));
         }
         self.values[number] -= 1;
         Answer::new(Action::On(caller))
@@ -329,34 +372,35 @@ impl Desk {
         Answer { woken, ..Answer::new(Action::On(caller)) }
     }
 
-    fn trap(&mut self) -> Answer {
-        self.pass_up_or_die(PassUp::General)
+    fn trap(&mut self, at: usize) -> Answer {
+        self.pass_up_or_die(at, PassUp::General)
     }
 
     /// "with no support handle the running process and its descendants end, and schedule"
-    fn pass_up_or_die(&mut self, kind: PassUp) -> Answer {
-        let slot = self.runner();
+    fn pass_up_or_die(&mut self, at: usize, kind: PassUp) -> Answer {
+        let slot = self.runner(at);
         if self.process(slot).handle != 0 {
             return Answer::new(Action::PassUp(slot, kind));
         }
         let ended = self.end(slot);
-        Answer { ended, ..Answer::new(self.schedule()) }
+        ended.tell(at, Answer::new(self.schedule(at)))
     }
 
     // Interrupts.
 
-    fn interrupt(&mut self, interrupt: Interrupt) -> Answer {
+    /// "A wake on one processor doesn't start an idle one; an interrupt of lines 2 to 7 there does."
+    fn interrupt(&mut self, at: usize, interrupt: Interrupt) -> Answer {
         let (woken, sub_device) = match interrupt.line {
-            1 => return self.leave(self.runner(), Line::Ready),
+            1 => return self.leave(at, Line::Ready),
             2 => (self.wake_all(Line::Nucleus(PSEUDO_CLOCK)), None),
             _ => {
                 let number = interrupt.sub_device();
                 (self.wake(Line::Nucleus(number)), Some(number))
             }
         };
-        let action = match self.running {
+        let action = match self.processors[at].running {
             Some(slot) => Action::On(slot),
-            None => self.schedule(),
+            None => self.schedule(at),
         };
         Answer { woken, sub_device, ..Answer::new(action) }
     }
@@ -364,16 +408,18 @@ impl Desk {
     // Lines and the scheduler.
 
     /// "first in the ready line runs. If the line is empty: nobody alive, halt; someone waiting
-    /// on a nucleus line, wait; otherwise panic."
-    fn schedule(&mut self) -> Action {
-        self.running = self.ready.pop_front();
-        if let Some(slot) = self.running {
+    /// on a nucleus line, wait; otherwise panic." "With the ready lines empty and someone alive, a
+    /// processor waits also when another is running somebody; panic needs that nobody runs anywhere."
+    fn schedule(&mut self, at: usize) -> Action {
+        let next = self.ready.pop_front();
+        self.processors[at].running = next;
+        if let Some(slot) = next {
             self.process_mut(slot).line = None;
             Action::Run(slot)
         } else if self.alive() == 0 {
             self.over = true;
             Action::Halt
-        } else if self.nucleus.iter().any(|line| !line.is_empty()) {
+        } else if self.nucleus.iter().any(|line| !line.is_empty()) || self.runners().next().is_some() {
             Action::Wait
         } else {
             self.over = true;
@@ -382,10 +428,11 @@ impl Desk {
     }
 
     /// The running process goes to the end of a line, then schedule.
-    fn leave(&mut self, slot: usize, line: Line) -> Answer {
-        self.running = None;
+    fn leave(&mut self, at: usize, line: Line) -> Answer {
+        let slot = self.runner(at);
+        self.processors[at].running = None;
         self.join(slot, line);
-        Answer::new(self.schedule())
+        Answer::new(self.schedule(at))
     }
 
     fn join(&mut self, slot: usize, line: Line) {
@@ -410,24 +457,33 @@ impl Desk {
         woken
     }
 
-    /// Ends a process and all its descendants; the mask names them. "Ending a process removes it
-    /// from its line without changing the order of the others or any semaphore's value."
-    fn end(&mut self, slot: usize) -> u64 {
-        let Some(process) = self.slots[slot].take() else {
-            return 0;
-        };
+    /// Ends a process and all its descendants; the masks name them and their processors. "Ending a
+    /// process removes it from its line without changing the order of the others or any
+    /// semaphore's value."
+    fn end(&mut self, slot: usize) -> Ended {
+        let mut ended = Ended { slots: 1 << slot, processors: 0 };
+        let process = self.slots[slot].take().expect("only the living end");
         match process.line {
             Some(line) => self.line_mut(line).retain(|&other| other != slot),
-            None => self.running = None,
+            None => ended.processors = self.leave_idle(slot),
         }
         self.ended_time += process.time;
-        let mut ended = 1 << slot;
         for other in 0..SLOTS {
             if matches!(&self.slots[other], Some(child) if child.parent == process.id) {
-                ended |= self.end(other);
+                let more = self.end(other);
+                ended.slots |= more.slots;
+                ended.processors |= more.processors;
             }
         }
         ended
+    }
+
+    /// Takes a process from the processor that runs it; the mask names that one.
+    fn leave_idle(&mut self, slot: usize) -> u8 {
+        let runs_it = |processor: &Processor| processor.running == Some(slot);
+        let at = self.processors.iter().position(runs_it).expect("who stands in no line runs");
+        self.processors[at].running = None;
+        1 << at
     }
 
     fn line_mut(&mut self, line: Line) -> &mut VecDeque<usize> {
@@ -442,11 +498,21 @@ impl Desk {
         self.slots[slot].as_mut().expect("lines hold the living")
     }
 
-    fn runner(&self) -> usize {
-        self.running.expect("refusal 4 comes before")
+    fn runner(&self, at: usize) -> usize {
+        self.processors[at].running.expect("refusal 4 comes before")
     }
 
     // What the generator and the counts look at.
+
+    /// Who runs, processor by processor.
+    pub(crate) fn runners(&self) -> impl Iterator<Item = usize> + '_ {
+        self.processors.iter().filter_map(|processor| processor.running)
+    }
+
+    /// Who runs on the processor that an event names, if there is one.
+    pub(crate) fn running_at(&self, processor: u8) -> Option<usize> {
+        self.processors.get(usize::from(processor))?.running
+    }
 
     pub(crate) fn process(&self, slot: usize) -> &Process {
         self.slots[slot].as_ref().expect("lines hold the living")
@@ -489,14 +555,28 @@ impl Desk {
     }
 }
 
+impl Ended {
+    /// The masks beside an answer: "a kill that ends a process on another processor leaves that one
+    /// idle and names it". The event's own processor schedules, and isn't named.
+    fn tell(&self, at: usize, answer: Answer) -> Answer {
+        Answer { ended: self.slots, left_idle: self.processors & !(1 << at), ..answer }
+    }
+}
+
 /// "ceiling 0 is at least 1, and they may not sum above 20, else refusal 27 after 24"; now
-/// "ceilings may sum to 64"
-pub fn allow(values: &[u32; SEMAPHORES], ceilings: &[u16; CUSTOMERS]) -> Result<(), StartRefusal> {
+/// "ceilings may sum to 64"; processors: "0 or above 8 is refused with 29, after 27"
+pub fn allow(
+    values: &[u32; SEMAPHORES],
+    ceilings: &[u16; CUSTOMERS],
+    processors: u8,
+) -> Result<(), StartRefusal> {
     let sum: usize = ceilings.iter().map(|&ceiling| usize::from(ceiling)).sum();
     if values.iter().any(|&value| value > VALUE_MAX) {
         Err(StartRefusal::ValueTooLarge)
     } else if ceilings[0] == 0 || sum > SLOTS {
         Err(StartRefusal::BadCeilings)
+    } else if !(1..=PROCESSORS).contains(&usize::from(processors)) {
+        Err(StartRefusal::BadProcessors)
     } else {
         Ok(())
     }

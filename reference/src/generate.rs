@@ -2,8 +2,8 @@
 //! looks at its tables before it writes the next event.
 
 use crate::desk::{
-    Call, Desk, Event, Interrupt, Kind, Mode, CUSTOMERS, GAP_MAX, ID_MAX, SEMAPHORES, SLOTS, SUB_DEVICES,
-    VALUE_MAX,
+    Call, Desk, Event, Interrupt, Kind, Mode, CUSTOMERS, GAP_MAX, ID_MAX, PROCESSORS, SEMAPHORES, SLOTS,
+    SUB_DEVICES, VALUE_MAX,
 };
 use crate::kin::Kin;
 use crate::log::{Start, MAX_BYTES};
@@ -50,6 +50,8 @@ pub struct Generator {
     desk: Desk,
     mix: Vec<(Topic, u32)>,
     stream: bool,
+    /// The processor of the event in the making.
+    at: u8,
     /// The few semaphores and sub-devices that are mostly used.
     semaphores: [u32; 4],
     devices: [u32; 5],
@@ -117,13 +119,17 @@ impl Generator {
         let devices = [rng.below(32), rng.below(32), rng.below(48), 32 + terminal, 40 + terminal];
         let clock = rng.word();
         let clock = rng.pick(&[0, 1000, clock, u32::MAX - clock % 4096]);
-        let start = Start { clock, values, ceilings: ceilings(&mut rng, SLOTS) };
+        let ceilings = ceilings(&mut rng, SLOTS);
+        let any = 1 + rng.index(PROCESSORS) as u8;
+        let processors = rng.pick(&[1, 1, 2, 2, 3, 4, PROCESSORS as u8, any]);
+        let start = Start { clock, values, ceilings, processors };
         Generator {
             start,
             desk: start.desk(),
             rng,
             mix: MIX.map(|(topic, _, often)| (topic, often)).to_vec(),
             stream: true,
+            at: 0,
             semaphores,
             devices,
             careful: usize::MAX,
@@ -133,12 +139,21 @@ impl Generator {
         }
     }
 
+    /// The same with so many processors.
+    #[must_use]
+    pub fn on_processors(mut self, processors: u8) -> Self {
+        self.start.processors = processors;
+        self.desk = self.start.desk();
+        self
+    }
+
     /// The next event: tries some until one leaves the machine alive, as long as it should be.
     pub fn event(&mut self) -> Event {
         loop {
-            let clock = self.desk.clock.wrapping_add(self.gap());
+            self.at = self.processor();
+            let clock = self.clock().wrapping_add(self.gap());
             let topic = self.topic();
-            let event = Event { clock, kind: topic(self) };
+            let event = Event { clock, processor: self.at, kind: topic(self) };
             let mut after = self.desk.clone();
             let answer = after.event(&event);
             if !after.over || self.careful == 0 {
@@ -155,7 +170,33 @@ impl Generator {
         }
     }
 
-    /// The time since the last accepted event: wraps, stands still, jumps, goes back.
+    /// Mostly any of the processors, and as often the last one again; now and then none.
+    fn processor(&mut self) -> u8 {
+        let many = self.start.processors;
+        let any = self.rng.below(many.into()) as u8;
+        match self.rng.below(if self.stream { 2000 } else { 64 }) {
+            0 => self.rng.pick(&[many, many, 8, 9, 128, 255, any | 128]),
+            1..=9 => self.at.min(many - 1),
+            _ => any,
+        }
+    }
+
+    /// The last reading of the event's processor.
+    fn clock(&self) -> u32 {
+        self.desk.processors.get(usize::from(self.at)).map_or(0, |processor| processor.clock)
+    }
+
+    /// From the processor's last reading to another's: back for the one, or on for the other.
+    fn apart(&mut self) -> u32 {
+        let other = self.rng.index(self.desk.processors.len());
+        self.desk.processors[other].clock.wrapping_sub(self.clock())
+    }
+
+    fn running(&self) -> Option<usize> {
+        self.desk.running_at(self.at)
+    }
+
+    /// The time since the processor's last accepted event: wraps, stands still, jumps, goes back.
     fn gap(&mut self) -> u32 {
         match self.rng.below(if self.stream { 2000 } else { 64 }) {
             0 => GAP_MAX,
@@ -163,8 +204,9 @@ impl Generator {
             2 => 0u32.wrapping_sub(1 + self.rng.below(5000)),
             3 if !self.stream => self.rng.word(),
             4..=7 => 0,
-            8 => u32::MAX - self.desk.clock,
-            9 => 0u32.wrapping_sub(self.desk.clock),
+            8 => u32::MAX - self.clock(),
+            9 => 0u32.wrapping_sub(self.clock()),
+            10 | 11 => self.apart(),
             _ => 1 + self.rng.below(2000),
         }
     }
@@ -173,7 +215,7 @@ impl Generator {
         if let Some(topic) = self.growth() {
             return topic;
         }
-        let idle = self.desk.running.is_none() && !self.desk.over;
+        let idle = self.running().is_none() && !self.desk.over;
         if idle && !self.rng.one_in(if self.stream { 500 } else { 4 }) {
             return if self.rng.one_in(4) { Generator::tick } else { Generator::device };
         }
@@ -204,7 +246,7 @@ impl Generator {
     /// so that the child runs.
     fn growth(&mut self) -> Option<Topic> {
         let family = self.family?;
-        let caller = self.desk.running.map(|slot| self.desk.process(slot))?;
+        let caller = self.running().map(|slot| self.desk.process(slot))?;
         let childless = self.desk.living().all(|process| process.parent != caller.id);
         if self.roomy().is_empty() {
             self.family = None;
@@ -224,7 +266,7 @@ impl Generator {
 
     /// The customers that the caller may get a child of.
     fn roomy(&self) -> Vec<u32> {
-        let own = self.desk.running.map_or(0, |slot| self.desk.process(slot).customer);
+        let own = self.running().map_or(0, |slot| self.desk.process(slot).customer);
         let may_name = |&customer: &usize| own == 0 || customer == own;
         let roomy = (0..CUSTOMERS).filter(may_name).filter(|&customer| !self.desk.at_ceiling(customer));
         roomy.map(|customer| customer as u32).collect()
@@ -239,7 +281,7 @@ impl Generator {
 
     /// Whether the caller has no child yet, and room for one: so families grow deep.
     fn has_room_below(&self) -> bool {
-        let Some(caller) = self.desk.running.map(|slot| self.desk.process(slot)) else {
+        let Some(caller) = self.running().map(|slot| self.desk.process(slot)) else {
             return false;
         };
         let childless = self.desk.living().all(|process| process.parent != caller.id);
@@ -302,18 +344,18 @@ impl Generator {
     }
 
     /// An id: the caller's own, those above, below and beside it, the dead, the unborn and the
-    /// impossible. In streams a caller with nobody below it rather ends.
+    /// impossible, and whoever runs elsewhere. In streams a caller with nobody below it rather ends.
     fn target(&mut self) -> u32 {
         let living: Vec<u32> = self.desk.living().map(|process| process.id).collect();
         let last = self.desk.last_id;
-        let own = self.desk.running.map(|slot| self.desk.process(slot));
+        let own = self.running().map(|slot| self.desk.process(slot));
         let (own, parent) = own.map_or((0, 0), |process| (process.id, process.parent));
         if living.is_empty() {
             return last;
         }
         let any = self.rng.pick(&living);
         let childless = if self.stream { own } else { any };
-        match self.rng.below(if self.stream { 13 } else { 16 }) {
+        match self.rng.below(if self.stream { 13 } else { 20 }) {
             0 => 0,
             1 => own,
             2 => parent,
@@ -322,6 +364,7 @@ impl Generator {
             5 => last + 1 + self.rng.below(3),
             6 => any | 1 << 31,
             7 => self.rng.pick(&[ID_MAX, 1 << 31, u32::MAX]),
+            16.. => self.running_elsewhere().unwrap_or(any),
             8..=11 => self.relative(&[Kin::Child, Kin::Deeper, Kin::Deeper]).unwrap_or(childless),
             _ => self.relative(&[Kin::Sibling, Kin::Cousin, Kin::Stranger]).unwrap_or(any),
         }
@@ -329,7 +372,7 @@ impl Generator {
 
     /// One of the living that is to the caller what is picked first, of these.
     fn relative(&mut self, kinds: &[Kin]) -> Option<u32> {
-        let caller = self.desk.process(self.desk.running?);
+        let caller = self.desk.process(self.running()?);
         let of = |&kind| {
             let kin = self.desk.living().filter(|process| Kin::of(&self.desk, caller, process) == kind);
             kin.map(|process| process.id).collect()
@@ -341,6 +384,18 @@ impl Generator {
         }
         let picked = self.rng.index(some.len());
         Some(self.rng.pick(&some[picked]))
+    }
+
+    /// The id of somebody who runs on another processor, rather one that the caller may name.
+    fn running_elsewhere(&mut self) -> Option<u32> {
+        let own = self.running()?;
+        let caller = self.desk.process(own);
+        let others = self.desk.runners().filter(|&slot| slot != own).map(|slot| self.desk.process(slot));
+        let (below, beside): (Vec<_>, Vec<_>) = others
+            .map(|process| (process.id, Kin::of(&self.desk, caller, process)))
+            .partition(|(_, kin)| [Kin::Child, Kin::Deeper].contains(kin));
+        let some = if below.is_empty() { beside } else { below };
+        (!some.is_empty()).then(|| self.rng.pick(&some).0)
     }
 
     fn ancestor(&mut self, mut id: u32) -> u32 {

@@ -108,7 +108,7 @@ impl Pager {
                 return false;
             }
         }
-        named == self.present && self.open.map_or(true, |open| self.rows[open.frame].owner == 0)
+        named == self.present && self.open.is_none_or(|open| self.rows[open.frame].owner == 0)
     }
 
     /// The answer's line, or none for what only changes the table.
@@ -125,7 +125,9 @@ impl Pager {
                 return None;
             }
             Ask::Refill { u, page } => self.from_uproc(u, |pager, u| pager.refill(u, page)),
-            Ask::Fault { u, page, modification } => self.from_uproc(u, |pager, u| pager.fault(u, page, modification)),
+            Ask::Fault { u, page, modification } => {
+                self.from_uproc(u, |pager, u| pager.fault(u, page, modification))
+            }
             Ask::End { u } => self.from_uproc(u, Pager::end),
             Ask::Report { ok } if self.agrees() => match self.open {
                 Some(transfer) => self.report(transfer, ok),
@@ -229,9 +231,10 @@ pub fn parse(line: &str) -> Result<Option<Ask>, String> {
         ["report", outcome @ ("ok" | "failed")] => Ask::Report { ok: outcome == "ok" },
         ["end", u] => Ask::End { u: number(u)? },
         ["rows", length] => Ask::Rows(number(length)? as usize),
-        ["row", frame, owner, entry] => {
-            Ask::Row(number(frame)? as usize, Row { owner: number(owner)? as u8, entry: number(entry)? as u8 })
-        }
+        ["row", frame, owner, entry] => Ask::Row(
+            number(frame)? as usize,
+            Row { owner: number(owner)? as u8, entry: number(entry)? as u8 },
+        ),
         _ => return Err(format!("'{line}' asks nothing known")),
     };
     Ok(Some(ask))
@@ -320,8 +323,12 @@ mod tests {
 
     #[test]
     fn one_page() {
-        let lines = answers("refill 1 0x80000\nfault 1 0x80000 load\nreport ok\nrefill 1 524288\nend 1\n").unwrap();
-        assert_eq!(lines, "1 0 entry 1 0 - 0\n2 0 read 1 0 0 0\n3 0 resume 1 0 0 0\n4 0 entry 1 0 0 0\n5 0 freed 1 - - 1\n");
+        let lines =
+            answers("refill 1 0x80000\nfault 1 0x80000 load\nreport ok\nrefill 1 524288\nend 1\n").unwrap();
+        assert_eq!(
+            lines,
+            "1 0 entry 1 0 - 0\n2 0 read 1 0 0 0\n3 0 resume 1 0 0 0\n4 0 entry 1 0 0 0\n5 0 freed 1 - - 1\n"
+        );
     }
 
     #[test]

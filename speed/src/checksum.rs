@@ -43,6 +43,7 @@ fn weight(answer: &Answer) -> u64 {
         part_number(answer.sub_device),
         answer.woken,
         answer.ended,
+        u64::from(answer.left_idle),
     ];
     parts.into_iter().fold(answer.refusal.map_or(0, |refusal| refusal as u64), mix)
 }

@@ -12,8 +12,8 @@ use rules::Part;
 use rules::Result;
 
 // An answer so far, with no action yet.
-fn so_far(result: Result, newborn: Part, device: Part, woken: u64, ended: u64) -> Answer
-    ensures { λ r. ⌜ r ≡ so-far result newborn device woken ended ⌝ }
+fn so_far(result: Result, newborn: Part, device: Part, woken: u64, ended: u64, idled: u8) -> Answer
+    ensures { λ r. ⌜ r ≡ so-far result newborn device woken ended idled ⌝ }
 {
     Answer {
         refusal: 0,
@@ -23,6 +23,7 @@ fn so_far(result: Result, newborn: Part, device: Part, woken: u64, ended: u64) -
         device: device,
         woken: woken,
         ended: ended,
+        idled: idled,
     }
 }
 
@@ -30,42 +31,49 @@ fn so_far(result: Result, newborn: Part, device: Part, woken: u64, ended: u64) -
 pub fn bare() -> Answer
     ensures { λ r. ⌜ r ≡ plain ⌝ }
 {
-    so_far(Result::Silent, Part::Absent, Part::Absent, 0, 0)
+    so_far(Result::Silent, Part::Absent, Part::Absent, 0, 0, 0)
 }
 
 // A result alone.
 pub fn gives(result: Result) -> Answer
     ensures { λ r. ⌜ r ≡ with-result result ⌝ }
 {
-    so_far(result, Part::Absent, Part::Absent, 0, 0)
+    so_far(result, Part::Absent, Part::Absent, 0, 0, 0)
 }
 
 // A newborn's slot, and the result that is its id.
 pub fn bears(result: Result, slot: u8) -> Answer
     ensures { λ r. ⌜ r ≡ newborn-told result slot ⌝ }
 {
-    so_far(result, Part::Number(slot), Part::Absent, 0, 0)
+    so_far(result, Part::Number(slot), Part::Absent, 0, 0, 0)
 }
 
 // The mask of who woke.
 pub fn wakes(woken: u64) -> Answer
     ensures { λ r. ⌜ r ≡ woken-told woken ⌝ }
 {
-    so_far(Result::Silent, Part::Absent, Part::Absent, woken, 0)
+    so_far(Result::Silent, Part::Absent, Part::Absent, woken, 0, 0)
 }
 
 // The sub-device commanded or acknowledged, and the mask of who woke.
 pub fn serves(device: u8, woken: u64) -> Answer
     ensures { λ r. ⌜ r ≡ device-told device woken ⌝ }
 {
-    so_far(Result::Silent, Part::Absent, Part::Number(device), woken, 0)
+    so_far(
+        Result::Silent,
+        Part::Absent,
+        Part::Number(device),
+        woken,
+        0,
+        0,
+    )
 }
 
-// The mask of who ended, and the result for a caller that lives on.
-pub fn ends(result: Result, ended: u64) -> Answer
-    ensures { λ r. ⌜ r ≡ ended-told result ended ⌝ }
+// The masks of who ended and of the processors left idle, and the result for a caller that lives on.
+pub fn ends(result: Result, ended: u64, idled: u8) -> Answer
+    ensures { λ r. ⌜ r ≡ ended-told result ended idled ⌝ }
 {
-    so_far(result, Part::Absent, Part::Absent, 0, ended)
+    so_far(result, Part::Absent, Part::Absent, 0, ended, idled)
 }
 
 // The answer so far, with its action.
@@ -83,6 +91,7 @@ pub fn does(action: Action, x: Answer) -> Answer
         device: device,
         woken: x.woken,
         ended: x.ended,
+        idled: x.idled,
     }
 }
 
@@ -98,6 +107,7 @@ pub fn refusal(number: u8) -> Answer
         device: Part::Absent,
         woken: 0,
         ended: 0,
+        idled: 0,
     }
 }
 

@@ -65,7 +65,7 @@ module _ (m : Tables) (g : Shape m) where
       go false = refl
 
   size : length (living (view m)) ≡ length (seats m)
-  size = ap length (seats-living m) ∙ length-map (seats m) (row m)
+  size = ap length (seats-living m g) ∙ length-map (seats m) (row m)
 
   -- "the child's customer is at its ceiling, the named customer is above 8, or ids have run out": the first two by the
   -- rows and the ceilings
@@ -88,7 +88,7 @@ module _ (m : Tables) (g : Shape m) where
 
     lowest-found : lowest-free (view m) ≡ s
     unfolding lowest-free
-    lowest-found = rw (seats-living m) (lowest-is base-slots (held m (seats m)) (m .ids) (g .ids-long) taken s e)
+    lowest-found = rw (seats-living m g) (lowest-is base-slots (held m (seats m)) (m .ids) (g .ids-long) taken s e)
 
   module _ (priority handle : ℕ) where
     -- "create now gives −1 exactly when .."

@@ -17,7 +17,7 @@ use Rattle.rules.specs.Words.{if_then_else_, first, those, any, All}
 use Rattle.rules.proofs.Cases.{or-true, and-left, and-intro}
 use Rattle.rules.specs.Numbers.{base-slots}
 use Rattle.rules.specs.Machine as book
-use Rattle.rules.specs.Machine.{Process, living, named, family, family-of, kill, back}
+use Rattle.rules.specs.Machine.{Process, living, named, family, kill, back}
 use Rattle.rules.specs.Answers.{Outcome, plain, giving, ending}
 use Rattle.rules.specs.Rules.{schedule, carry-on, die, may-name, terminate}
 use Rattle.lines.specs.Lines.{first-where, is-id, occ}
@@ -54,7 +54,7 @@ by-id f none n u (p ∷ ps) = go (whom n u p) refl (by-id f none n u ps)
 
 -- what becomes of the caller where who has the id ends
 abbrev ends-with : ℕ → Process → book.Machine → Outcome
-ends-with n p m = if family n p then die n m else schedule (giving (pos 0) (ending (family-of n m) plain)) (back (kill n m))
+ends-with n p m = if family n p then die n m else schedule (giving (pos 0) (ending n m plain)) (back (kill n m))
 
 terminate-by : (p : Process) (a1 n : ℕ) (m : book.Machine) → n ≡ (if eqb a1 0 then p .id else a1)
     → terminate p a1 0 0 m ≡ (if any (whom n (may-name p)) (living m) then ends-with n p m else carry-on p (giving (negsuc 0) plain) m)
@@ -87,7 +87,7 @@ module _ (m : Tables) (g : Shape m) (n : ℕ) (u : Process → Bool) where
 
   living-named : any (whom n u) (living (view m)) ≡ any t (seats m)
   unfolding named t
-  living-named = ap (any (whom n u)) (seats-living m) ∙ any-map (whom n u) (row m) (seats m)
+  living-named = ap (any (whom n u)) (seats-living m g) ∙ any-map (whom n u) (row m) (seats m)
 
   -- who has an id is found by it: the test is asked of that one alone
   found-named : 0 < n → (i : ℕ) → first-where (is-id n) 0 (m .ids) ≡ found.At i → any (whom n u) (living (view m)) ≡ u (row m i)
@@ -153,7 +153,7 @@ module _ (m : Tables) (g : Shape m) (runs : m .running < base-slots) (a1 n : ℕ
     ends-found = terminate-by (caller m) a1 n (view m) e ∙ rw (found-named m g n (may-name (caller m)) named-pos i h, as-rows i, allows)
 
     -- 02, (ix): "a surviving caller with a valid target goes to the end of its ready line with result 0, then schedule"
-    pub ends-other : k .tables .running < base-slots → x ≡ ended-told (Says (pos 0)) (k .ended) → Comes (schedule x (back (view (k .tables)))) r
+    pub ends-other : k .tables .running < base-slots → x ≡ ended-told (Says (pos 0)) (k .ended) (k .idled) → Comes (schedule x (back (view (k .tables)))) r
         → Comes (terminate (caller m) a1 0 0 (view m)) r
     unfolding family
     ends-other b q c = go (kin (m .parents) (m .ids) n (m .running)) refl
@@ -163,7 +163,7 @@ module _ (m : Tables) (g : Shape m) (runs : m .running < base-slots) (a1 n : ℕ
         go false f = comes-by _ _ r (ends-found ∙ rw f (after-kill (λ y l. schedule y (back l)) (Says (pos 0)) n m k t x q)) c
 
     -- "if the caller ends, schedule"
-    pub ends-caller : base-slots ≤ k .tables .running → x ≡ ended-told Silent (k .ended) → Comes (schedule x (view (k .tables))) r
+    pub ends-caller : base-slots ≤ k .tables .running → x ≡ ended-told Silent (k .ended) (k .idled) → Comes (schedule x (view (k .tables))) r
         → Comes (terminate (caller m) a1 0 0 (view m)) r
     unfolding family
     ends-caller b q c = go (kin (m .parents) (m .ids) n (m .running)) refl

@@ -21,21 +21,22 @@ use Rattle.tables.specs.View.{row, waiter, occupant, readies, waiters, seats, v
 use Rattle.kin.specs.Families.{above, climb, elders, Parent, Kin}
 use Rattle.tables.specs.Contracts.{Step}
 use Rattle.kin.proofs.Climbs.{elders-up}
-use Rattle.tables.proofs.Seats.{Seat, Waits, pos-live, occ-seats, seat, ready-seat, waiting, runner-seat, room-beside}
+use Rattle.tables.proofs.Away.{seats-alike}
+use Rattle.tables.proofs.Seats.{Seat, Waits, pos-live, occ-seats, seat, away-seat, ready-seat, waiting, runner-seat, room-beside}
 
--- a child of whoever runs, in the slot s, at the end of the ready line
-abbrev pub born : Tables → ℕ → ℕ → ℕ → ℕ → Tables
-born m s customer priority handle = record {
+-- a child of whoever runs, in the slot s, by the bit that it takes and the ready line that it joins
+abbrev pub born-with : Tables → ℕ → ℕ → ℕ → ℕ → ℕ → List ℕ → ℕ → Tables
+born-with m s bit customer priority handle q n = record {
   ids = set (m .ids) s (m .next);
-  taken = m .taken + 2 ^ s;
+  taken = m .taken + bit;
   parents = set (m .parents) s (m .running + 1);
   customers = set (m .customers) s customer;
   priorities = set (m .priorities) s priority;
   handles = set (m .handles) s handle;
   times = m .times;
   lines = m .lines;
-  ready = set (m .ready) (m .nready) s;
-  nready = m .nready + 1;
+  ready = q;
+  nready = n;
   waits = m .waits;
   nwaits = m .nwaits;
   running = m .running;
@@ -47,7 +48,15 @@ born m s customer priority handle = record {
   total = m .total;
   idle = m .idle;
   ended = m .ended;
+  runners = m .runners;
+  lasts = m .lasts;
+  idles = m .idles;
+  processors = m .processors;
 }
+
+-- at the end of the ready line
+abbrev pub born : Tables → ℕ → ℕ → ℕ → ℕ → Tables
+born m s customer priority handle = born-with m s (2 ^ s) customer priority handle (set (m .ready) (m .nready) s) (m .nready + 1)
 
 -- who climbs past a free slot does not see what is stored there
 climb-past : (ps ids : List ℕ) → Kin ps ids → (f u v : ℕ) → getD ids f 0 ≡ 0 → (n s : ℕ) → s < base-slots → (s ≡ f → ⊥) → climb (set ps f u) (set ids f v) n s ≡ climb ps ids n s
@@ -179,12 +188,21 @@ module _ (m : Tables) (g : Shape m) (h : m .running < base-slots) (s customer pr
     no-handle = unborn (λ x. getD (r .handles) x 0 ≡ 0) (λ x c n z. getD-set-other (m .handles) s x handle 0 n ∙ g .no-handle x c z);
     no-time = unborn (λ x. getD (r .times) x 0 ≡ 0) (λ x c n z. g .no-time x c z);
     status = g .status;
+    runners-long = g .runners-long;
+    lasts-long = g .lasts-long;
+    idles-long = g .idles-long;
+    some-processor = g .some-processor;
+    few-processors = g .few-processors;
+    in-seats = g .in-seats;
+    no-runner = g .no-runner;
+    no-last = g .no-last;
+    no-idle = g .no-idle;
     spent = g .spent;
     within = g .within;
   }
 
-  abbrev with-birth : List Process → List Process → List Waiter → ℕ → book.Machine
-  with-birth run q w k = record { slots = base-slots; ceilings = m .ceilings; running = run; ready = q; waiting = w; sems = m .sems; next = k; status = status-of (m .status); last = m .last; total = m .total; idle = m .idle; ended = m .ended }
+  abbrev with-birth : List Process → List Process → List Waiter → ℕ → List book.Seat → book.Machine
+  with-birth run q w k ss = record { slots = base-slots; ceilings = m .ceilings; running = run; ready = q; waiting = w; sems = m .sems; next = k; status = status-of (m .status); last = m .last; total = m .total; idle = m .idle; ended = m .ended; elsewhere = ss }
 
   pub birth-step : lowest-free (view m) ≡ s → customer ≡ child-of (getD (m .customers) (m .running) 0) priority → Step (birth (row m (m .running)) priority handle) m r
   unfolding birth
@@ -195,11 +213,12 @@ module _ (m : Tables) (g : Shape m) (h : m .running < base-slots) (s customer pr
       ∙ map-append (row r) (readies m) (s ∷ [])
       ∙ ap₂ (λ (xs ys : List Process). xs ++ ys) (map-same (Seat m) (row r) (row m) old-row (readies m) (occurring (Seat m) (readies m) (ready-seat m g))) (ap (λ p. p ∷ []) (new-row low theirs)) in
       let waits : view r .waiting ≡ view m .waiting = map-same (Waits m) (waiter r) (waiter m) (λ x w. ap (λ p. at-line (getD (m .lines) x 0) p) (old-row x (w .seat))) (waiters m) (waiting m g) in
+      let there : view r .elsewhere ≡ view m .elsewhere = seats-alike (row r) (row m) (m .runners) (λ x o. old-row x (away-seat m g x o)) (m .processors) (λ k. getD (m .lasts) k 0) (λ k. getD (m .idles) k 0) in
       record {
         seen =
-            ap (λ l. with-birth l (view r .ready) (view r .waiting) (r .next)) runs
-            ∙ ap₂ (λ q w. with-birth (view m .running) q w (r .next)) ready waits
-            ∙ ap (λ k. with-birth (view m .running) (view m .ready ++ (newborn (row m (m .running)) priority handle (view m) ∷ [])) (view m .waiting) k) (let z : m .next + 1 ≡ suc (m .next) = omega arith in z);
+            ap₂ (λ l ss. with-birth l (view r .ready) (view r .waiting) (r .next) ss) runs there
+            ∙ ap₂ (λ q w. with-birth (view m .running) q w (r .next) (view m .elsewhere)) ready waits
+            ∙ ap (λ k. with-birth (view m .running) (view m .ready ++ (newborn (row m (m .running)) priority handle (view m) ∷ [])) (view m .waiting) k (view m .elsewhere)) (let z : m .next + 1 ≡ suc (m .next) = omega arith in z);
         shape = born-shape;
       }
     where

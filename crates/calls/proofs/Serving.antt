@@ -89,7 +89,7 @@ device-comes d b m w r t h =
 
 -- ---- P
 abbrev pub put-sem : ℕ → ℕ → Tables → Tables
-put-sem i v m = record { ids = m .ids; taken = m .taken; parents = m .parents; customers = m .customers; priorities = m .priorities; handles = m .handles; times = m .times; lines = m .lines; ready = m .ready; nready = m .nready; waits = m .waits; nwaits = m .nwaits; running = m .running; sems = set (m .sems) i v; ceilings = m .ceilings; next = m .next; status = m .status; last = m .last; total = m .total; idle = m .idle; ended = m .ended }
+put-sem i v m = record { ids = m .ids; taken = m .taken; parents = m .parents; customers = m .customers; priorities = m .priorities; handles = m .handles; times = m .times; lines = m .lines; ready = m .ready; nready = m .nready; waits = m .waits; nwaits = m .nwaits; running = m .running; sems = set (m .sems) i v; ceilings = m .ceilings; next = m .next; status = m .status; last = m .last; total = m .total; idle = m .idle; ended = m .ended; runners = m .runners; lasts = m .lasts; idles = m .idles; processors = m .processors }
 
 pub sem-shape : (i v : ℕ) (m : Tables) → Shape m → Shape (put-sem i v m)
 sem-shape i v m g = let long : length (set (m .sems) i v) ≡ base-sems = simp length-set (g .sems-long) in search needs

@@ -97,10 +97,10 @@ fn terminate(t: Tables, a1: u32) -> Settled
     let k = t.kill(id);
     let m = k.tables;
     if m.running < SLOTS {
-        let x = ends(Result::Says(0), k.ended);
+        let x = ends(Result::Says(0), k.ended, k.idled);
         return m.back(x);
     }
-    let x = ends(Result::Silent, k.ended);
+    let x = ends(Result::Silent, k.ended, k.idled);
     m.schedule(x)
 }
 

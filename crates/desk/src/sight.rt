@@ -3,7 +3,7 @@ ghost use mathlib.Core.Path.{_≡_};
 ghost use Rattle.rules.specs.Answers.{mask};
 ghost use Rattle.rules.specs.Machine.{living, living-of, ceiling};
 ghost use Rattle.rules.specs.Rules.{value};
-ghost use Rattle.looks.specs.Looks.{who-runs, row-at, readies-in-order, waiting-in-order, sums, standing};
+ghost use Rattle.looks.specs.Looks.{seat-of, who-runs, row-at, readies-in-order, waiting-in-order, sums, standing};
 ghost use Rattle.desk.specs.View.{view, Good};
 use crate::Machine;
 use looks::Order;
@@ -13,13 +13,13 @@ use looks::Totals;
 use rules::Part;
 
 impl Machine {
-    // The slot of whoever runs, or absent.
-    pub fn running(self) -> Part
+    // The slot of whoever runs on a processor, or absent.
+    pub fn running(self, processor: u8) -> Part
         requires { ⌜ Good self ⌝ }
-        ensures { λ r. ⌜ r ≡ who-runs (view self) ⌝ }
+        ensures { λ r. ⌜ r ≡ who-runs processor (view self) ⌝ }
     {
         let t = self.tables;
-        looks::running(t)
+        looks::running(t, processor)
     }
 
     // The mask of the living, "bit n for slot n".
@@ -86,7 +86,7 @@ impl Machine {
         looks::living(t, customer)
     }
 
-    // The sum of the accepted gaps, idle time and ended time.
+    // The sum of the accepted gaps, idle time of all processors and ended time.
     pub fn totals(self) -> Totals
         requires { ⌜ Good self ⌝ }
         ensures { λ r. ⌜ r ≡ sums (view self) ⌝ }
@@ -104,13 +104,23 @@ impl Machine {
         looks::status_of(t)
     }
 
-    // The last clock reading: "that of the latest accepted event, or the start".
-    pub fn last(self) -> u32
+    // A processor's last clock reading, "that of the latest accepted event, or the start"; 0 where there is no such
+    // processor.
+    pub fn last(self, processor: u8) -> u32
         requires { ⌜ Good self ⌝ }
-        ensures { λ r. ⌜ r ≡ view self .last ⌝ }
+        ensures { λ r. ⌜ r ≡ seat-of processor (view self) .last ⌝ }
     {
         let t = self.tables;
-        t.last
+        looks::last(t, processor)
+    }
+
+    // A processor's idle time; 0 where there is no such processor.
+    pub fn idle(self, processor: u8) -> u64
+        requires { ⌜ Good self ⌝ }
+        ensures { λ r. ⌜ r ≡ seat-of processor (view self) .idle ⌝ }
+    {
+        let t = self.tables;
+        looks::idle(t, processor)
     }
 
     // The id that the next newborn gets: "ids .. are never used again".

@@ -10,15 +10,15 @@ start 1000
 
 # 20 at the first field: one byte of its head
 start 1000
-drop 152
+drop 153
 
 # 20 at the first field: two bytes of its head
 start 1000
-drop 151
+drop 152
 
 # 20 at the first field: a head and no value
 start 1000
-drop 150
+drop 151
 
 # 20 at the first field: a value one byte short
 start 1000
@@ -43,15 +43,15 @@ byte 0 255
 // 22, 23 and 24 at the first field
 fn first_refused() {
     play::play(
-        b"# 22 at the first field: length 149
+        b"# 22 at the first field: length 150
 start 1000
-byte 1 149
+byte 1 150
 
-# 22 at the first field: length 151
+# 22 at the first field: length 152
 start 1000
-byte 1 151
+byte 1 152
 
-# 22 at the first field: length 150 + 256
+# 22 at the first field: length 151 + 256
 start 1000
 byte 2 1
 
@@ -79,13 +79,13 @@ kernel 1100 -6
     );
 }
 
-// "two more bytes each, after the values, length 150"
+// "two more bytes each, after the values"; "the start ends with the number of processors (length 151 ..)"
 fn first_layout() {
     play::play(
         b"# 22 at the first field: a start of length 132, without ceilings
 start 1000
 byte 1 132
-drop 18
+drop 19
 kernel 1100 -6
 
 # 22 at the first field: length 132, though the ceilings are there
@@ -93,13 +93,23 @@ start 1000
 byte 1 132
 kernel 1100 -6
 
+# 22 at the first field: a start of length 150, without its number of processors
+start 1000
+byte 1 150
+drop 1
+kernel 1100 -6
+
 # 20 at the first field: no ceilings
 start 1000
-drop 18
+drop 19
 
 # 20 at the first field: eight ceilings
 start 1000
-drop 2
+drop 3
+
+# 20 at the first field: no number of processors
+start 1000
+drop 1
 
 ",
     );
@@ -158,6 +168,32 @@ kernel 1100 -6
     );
 }
 
+// "0 or above 8 is refused with 29"
+fn first_processors() {
+    play::play(
+        b"# 29: no processor
+start 1000
+processors 0
+kernel 1100 -6
+
+# 29: nine processors
+start 1000
+processors 9
+kernel 1100 -6
+
+# 29: 255 processors
+start 1000
+processors 255
+
+# no 29: eight processors
+start 1000
+processors 8
+kernel 1100 -6
+
+",
+    );
+}
+
 // 20 at a later field
 fn later_cut() {
     play::play(
@@ -165,18 +201,18 @@ fn later_cut() {
 start 1000
 kernel 1100 -6
 interrupt 1200 2 0 0
-drop 9
+drop 10
 
 # 20 at the last field: two bytes of its head
 start 1000
 kernel 1100 -6
 interrupt 1200 2 0 0
-drop 8
+drop 9
 
 # 20 at the last field: a head and no value
 start 1000
 kernel 1100 -6
-drop 21
+drop 22
 
 # 20 at the last field: a call one byte short
 start 1000
@@ -221,25 +257,25 @@ byte 0 0
 // 22 at a later field
 fn later_length() {
     play::play(
-        b"# 22 at a middle field: a call of 20
+        b"# 22 at a middle field: a call of 21
 start 1000
 kernel 1100 -6
-byte 1 20
+byte 1 21
 kernel 1200 -6
 
-# 22 at a middle field: an interrupt of 5
+# 22 at a middle field: an interrupt of 7
 start 1000
 interrupt 1100 2 0 0
-byte 1 5
+byte 1 7
 kernel 1200 -6
 
-# 22 at the last field: an exception of 7
+# 22 at the last field: an exception of 5
 start 1000
 kernel 1100 -6
 exception 1200 24
-byte 1 7
+byte 1 5
 
-# 22 at the last field: a call of 21 + 256
+# 22 at the last field: a call of 22 + 256
 start 1000
 kernel 1100 -6
 kernel 1200 -6
@@ -278,20 +314,20 @@ fn later_mode() {
         b"# 25 at the first event: mode 2
 start 1000
 kernel 1100 -6
-byte 7 2
+byte 8 2
 
 # 25 at a middle field: mode 255
 start 1000
 kernel 1100 -6
 kernel 1200 -6
-byte 7 255
+byte 8 255
 kernel 1300 -6
 
 # 25 at the last field: mode 2
 start 1000
 interrupt 1100 2 0 0
 user 1200 1
-byte 7 2
+byte 8 2
 
 ",
     );
@@ -304,14 +340,14 @@ fn order_of_heads() {
 start 1000
 kernel 1100 -6
 byte 0 9
-drop 22
+drop 23
 
 # order: an unknown tag is 21, whatever its length
 start 1000
 kernel 1100 -6
 byte 0 9
 byte 1 99
-drop 21
+drop 22
 
 # order: a wrong length is 22, though the value is cut
 start 1000
@@ -320,7 +356,7 @@ byte 1 99
 
 # order: a wrong length is 22, though it is the first field and no start
 interrupt 1000 2 0 0
-byte 1 8
+byte 1 7
 
 ",
     );
@@ -335,12 +371,12 @@ drop 1
 
 # order: mode 2 in a first field is 23
 kernel 1000 -6
-byte 7 2
+byte 8 2
 
 # order: mode 2 in a cut call is 20
 start 1000
 kernel 1100 -6
-byte 7 2
+byte 8 2
 drop 1
 
 ",
@@ -366,14 +402,14 @@ drop 1
 # order: a later start of a wrong length is 22
 start 1000
 start 1000
-byte 1 151
+byte 1 150
 
 # reading goes on after halt
 start 1000
 kernel 1100 -2 0
 kernel 1200 -6
 kernel 1300 -6
-byte 7 2
+byte 8 2
 
 # refused events are fields too
 start 1000
@@ -405,13 +441,48 @@ drop 1
 # order: bad ceilings in a start of a wrong length: 22
 start 1000
 ceilings 0 21
-byte 1 149
+byte 1 150
 
 # order: bad ceilings in a later start: 23
 start 1000
 kernel 1100 -6
 start 1200
 ceilings 0 21
+
+",
+    );
+}
+
+// "29, after 27 wherever that is"
+fn order_of_processors() {
+    play::play(
+        b"# order: no processor and ceiling 0 at 0: 27
+start 1000
+ceilings 0
+processors 0
+
+# order: nine processors and a value too large: 24
+start 1000 31 2147483648
+processors 9
+
+# order: no processor in a later start: 23
+start 1000
+kernel 1100 -6
+start 1200
+processors 0
+
+# a processor out of range is no fault of the log: the desk's 7, and the reading goes on
+start 1000
+on 255
+kernel 1100 -6
+on 0
+kernel 1100 -6
+
+# order: mode 2 at a processor out of range: 25
+start 1000
+on 1
+kernel 1100 -6
+byte 8 2
 
 ",
     );
@@ -442,6 +513,7 @@ pub(crate) fn all() {
     first_refused();
     first_layout();
     first_ceilings();
+    first_processors();
     later_cut();
     later_unknown();
     later_length();
@@ -451,5 +523,6 @@ pub(crate) fn all() {
     order_of_values();
     order_of_starts();
     order_of_ceilings();
+    order_of_processors();
     sizes();
 }

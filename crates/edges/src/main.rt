@@ -5,6 +5,7 @@ mod fields;
 mod full;
 mod hands;
 mod interrupts;
+mod processors;
 mod refusals;
 mod tried;
 
@@ -16,5 +17,6 @@ fn main() {
     full::all();
     hands::all();
     interrupts::all();
+    processors::all();
     fields::all();
 }

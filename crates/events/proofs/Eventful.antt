@@ -11,19 +11,17 @@ use Rattle.rules.specs.declared.Event.{Event}
 use Rattle.rules.specs.declared.Cause.the-variants.{Tlb, General}
 use Rattle.rules.specs.declared.Answer.{Answer}
 use Rattle.rules.specs.Words.{if_then_else_, first}
-use Rattle.rules.specs.Numbers.{base-slots, base-sems, base-customers, gap-limit, time-limit, over, clock-back, time-full, nobody-runs, no-such-line, no-such-code}
+use Rattle.rules.specs.Numbers.{base-slots, gap-limit, time-limit, over, clock-back, time-full, nobody-runs, no-such-line, no-such-code}
 use Rattle.rules.specs.Machine.{Process, back, gap, charge}
 use Rattle.rules.specs.Answers.{Outcome, plain, refusing}
 use Rattle.rules.specs.Rules.{schedule, runner, pass-up-or-die, trap, tlb, tick, device-done, sub-device, interrupt, exception, clock, not-on, stopped, bad-line, bad-code, needs-runner, rows, refusal, refused, perform, step}
 use Rattle.rules.proofs.Laws.{refuses, accepts}
-use Rattle.rules.specs.Tables as rule
-use Rattle.rules.proofs.Tables.{keeps}
 use Rattle.tables.specs.declared.Tables.{Tables}
 use Rattle.tables.specs.declared.Settled.{Settled}
 use Rattle.tables.specs.Codes.{status-of}
-use Rattle.tables.specs.View.{row, view, Shape, Good}
+use Rattle.tables.specs.View.{row, view, Shape}
 use Rattle.tables.specs.Contracts.{Comes}
-use Rattle.events.specs.Contracts.{Answers}
+use Rattle.events.specs.Contracts.{Holds}
 use Rattle.tables.proofs.Seats.{runs-one}
 
 -- ---- what the running process does
@@ -65,7 +63,7 @@ running-test m = go (ltb (m .running) base-slots) refl
     go true e = sym (lt-leb base-slots (m .running) (ltb-true (m .running) base-slots e))
     go false e = sym (le-leb base-slots (m .running) (ltb-false (m .running) base-slots e))
 
-stops : (m : Tables) → (m .status ≡ 0 → ⊥) → stopped (view m) ≡ true
+pub stops : (m : Tables) → (m .status ≡ 0 → ⊥) → stopped (view m) ≡ true
 unfolding stopped
 stops m h = go (m .status) h
   where
@@ -74,7 +72,7 @@ stops m h = go (m .status) h
     go (suc zero) h = refl
     go (suc (suc n)) h = refl
 
-goes-on : (m : Tables) → m .status ≡ 0 → stopped (view m) ≡ false
+pub goes-on : (m : Tables) → m .status ≡ 0 → stopped (view m) ≡ false
 unfolding stopped
 goes-on m h = ap (λ s. not-on (status-of s)) h
 
@@ -128,23 +126,16 @@ module _ (m : Tables) (e : Event) where
           row-none h = rw (goes-on m on, line, code, lt-leb gap-limit g forth, le-ltb time-limit (m .total + g) room, running-test m, h)
 
 -- ---- the answer
-module _ (m : Tables) (g : Good m) (e : Event) (r : Settled) where
+module _ (m : Tables) (g : Holds m) (e : Event) (r : Settled) where
   -- refused: the same machine, and the number alone
-  pub says-no : (n : ℕ) → (n ≡ 0 → ⊥) → refusal (view m) e ≡ n → r .tables ≡ m → r .answer ≡ refusing n plain → Answers e m r
+  pub says-no : (n : ℕ) → (n ≡ 0 → ⊥) → refusal (view m) e ≡ n → r .tables ≡ m → r .answer ≡ refusing n plain → Comes (step (view m) e) r
   unfolding refused
   says-no zero nz h same told = absurd (nz refl)
   says-no (suc n) nz h same told = record {
     seen = refuses (view m) e n h ∙ ap₂ (λ (a : Tables) (b : Answer). record { after = view a; answer = b }) (sym same) (sym told);
-    same = λ no. same;
-    good = subst Good (sym same) g;
+    shape = subst Shape (sym same) (g .shape);
   }
 
   -- accepted: what it does to the machine with its gap charged
-  pub says-yes : (k : Tables) → refusal (view m) e ≡ 0 → view k ≡ charge (clock e) (view m) → Comes (perform e (view k)) r → Answers e m r
-  says-yes k h charged does =
-      let seen : step (view m) e ≡ record { after = view (r .tables); answer = r .answer } = accepts (view m) e h ∙ ap (perform e) (sym charged) ∙ does .seen in
-      record {
-        seen = seen;
-        same = λ no. absurd (no h);
-        good = record { shape = does .shape; tables = subst (rule.Tables base-slots base-sems base-customers) (ap (λ (o : Outcome). o .after) seen) (keeps base-slots base-sems base-customers (view m) e (g .tables)) };
-      }
+  pub says-yes : (k : Tables) → refusal (view m) e ≡ 0 → view k ≡ charge (clock e) (view m) → Comes (perform e (view k)) r → Comes (step (view m) e) r
+  says-yes k h charged does = record { seen = accepts (view m) e h ∙ ap (perform e) (sym charged) ∙ does .seen; shape = does .shape }

@@ -5,10 +5,11 @@ ghost use lib.Dec.{leb};
 ghost use Rattle.rules.specs.Tables.{Sound};
 ghost use Rattle.rules.specs.Numbers.{base-slots, base-sems, base-customers};
 ghost use Rattle.rules.specs.Answers.{refusing, plain};
-ghost use Rattle.rules.specs.Rules.{bad-line, needs-runner, perform, nothing-left};
+ghost use Rattle.rules.specs.Machine.{turn};
+ghost use Rattle.rules.specs.Rules.{bad-line, needs-runner, perform, step, nothing-left};
 ghost use Rattle.tables.specs.View.{view, Shape, Good};
 ghost use Rattle.tables.specs.Contracts.{Comes};
-ghost use Rattle.events.specs.Contracts.{Answers};
+ghost use Rattle.events.specs.Contracts.{Holds, Answers};
 use crate::interrupts::exception;
 use crate::interrupts::interrupt;
 use answers::refusal;
@@ -18,6 +19,7 @@ use rules::CUSTOMERS;
 use rules::Event;
 use rules::GAP;
 use rules::Mode;
+use rules::NO_SUCH_PROCESSOR;
 use rules::NOBODY_RUNS;
 use rules::OVER;
 use rules::SEMAPHORES;
@@ -68,10 +70,10 @@ fn perform(t: Tables, e: Event) -> Settled
     }
 }
 
-// Any event on any machine that obeys the rule.
-pub fn event(t: Tables, e: Event) -> Settled
-    requires { ⌜ Good t ⌝ }
-    ensures { λ r. ⌜ Answers e t r ⌝ }
+// An event at the processor that is here.
+fn at_hand(t: Tables, e: Event) -> Settled
+    requires { ⌜ Holds t ⌝ }
+    ensures { λ r. ⌜ Comes (step (view t) e) r ⌝ }
 {
     if t.status != ON {
         return refused(t, OVER);
@@ -97,15 +99,39 @@ pub fn event(t: Tables, e: Event) -> Settled
     perform(m, e)
 }
 
+// Any event at any processor, on any machine that obeys the rule. "A processor number out of range is refused with 7,
+// after 1"; else the machine turns to that processor, and back.
+pub fn event(t: Tables, processor: u8, e: Event) -> Settled
+    requires { ⌜ Good t ⌝ }
+    ensures { λ r. ⌜ Answers processor e t r ⌝ }
+{
+    let k = processor as usize;
+    if t.processors <= k {
+        if t.status != ON {
+            return refused(t, OVER);
+        }
+        return refused(t, NO_SUCH_PROCESSOR);
+    }
+    let there = t.turn(k);
+    let done = at_hand(there, e);
+    let m = done.tables;
+    let answer = done.answer;
+    let back = m.turn(k);
+    Settled {
+        tables: back,
+        answer: answer,
+    }
+}
+
 // The least ceilings allowed; 02, (ii): "ceiling 0 is at least 1".
 const LEAST: [u16; CUSTOMERS] = [1, 0, 0, 0, 0, 0, 0, 0, 0];
 
 // "The machine left when the start with the least numbers allowed ends its id 1 at once (call −2, clock unchanged)."
 pub fn left() -> Tables
-    ensures { λ r. ⌜ (view r ≡ nothing-left base-slots base-sems base-customers) × Good r ⌝ }
+    ensures { λ r. ⌜ (view r ≡ turn 0 (nothing-left base-slots base-sems base-customers)) × Good r ⌝ }
 {
-    let t = Tables::begun(0, [0; SEMAPHORES], LEAST);
-    let done = event(
+    let t = Tables::begun(0, [0; SEMAPHORES], LEAST, 1);
+    let done = at_hand(
         t,
         Event::Call {
             clock: 0,
@@ -116,5 +142,6 @@ pub fn left() -> Tables
             a3: 0,
         },
     );
-    done.tables
+    let m = done.tables;
+    m.turn(0)
 }

@@ -10,13 +10,13 @@ use Rattle.rules.specs.declared.Event.{Event}
 use Rattle.rules.specs.declared.Event.the-variants.{Call, Interrupt, Exception}
 use Rattle.rules.specs.Words.{front, All}
 use Rattle.rules.proofs.Cases.{if-cases, first-cases, All-over, All-under, All-append, All-those, All-front, All-rest, All-without, getD-cases}
-use Rattle.rules.specs.Machine.{Process, Waiter, Machine, living, at, line, family, child-of, newborn, charge}
-use Rattle.rules.proofs.Living.{process, all-living, all-running, all-ready, all-waiting}
+use Rattle.rules.specs.Machine.{Process, Waiter, Seat, Machine, seated-in, living, at, line, family, child-of, newborn, charge}
+use Rattle.rules.proofs.Living.{process, all-living, all-running, all-elsewhere, all-ready, all-waiting, seats-killed}
 use Rattle.rules.specs.Answers.{Outcome}
 use Rattle.rules.specs.Rules.{denied, value, clock}
 use Rattle.ledger.specs.History.{a2-of}
 use Rattle.ledger.specs.Kills.{passed-up, target}
-use Rattle.ledger.specs.Moves.{Move, none, steps-back, joins, first-wakes, all-wake, is-born, ends, call-moves, carried-out, move, moved, queue, Moved}
+use Rattle.ledger.specs.Moves.{Move, none, steps-back, joins, first-wakes, all-wake, is-born, ends, call-moves, carried-out, move, moved, others, queue, Moved}
 use Rattle.ledger.proofs.Lines.{line-all}
 
 -- the support handle that an event carries
@@ -89,11 +89,21 @@ module _ (P : Process → Type 0) (m : Machine) (h : All P (living m)) where
   waiting-each (is-born a2 a3) = wts
   waiting-each (ends n) = All-those (λ w. P (w .process)) (λ w. not (family n (w .process))) (m .waiting) wts
 
+  others-each : (v : Move) → All P (seated-in (others v m))
+  others-each none = all-elsewhere P m h
+  others-each steps-back = all-elsewhere P m h
+  others-each (joins l) = all-elsewhere P m h
+  others-each (first-wakes l) = all-elsewhere P m h
+  others-each (all-wake l) = all-elsewhere P m h
+  others-each (is-born a2 a3) = all-elsewhere P m h
+  others-each (ends n) = subst (All P) (sym (seats-killed n (m .elsewhere))) (All-those P (λ p. not (family n p)) (seated-in (m .elsewhere)) (all-elsewhere P m h))
+
   each-after : (v : Move) (o : Outcome) → Moved v m o → Born (λ a2 a3. All P (map (λ p. newborn p a2 a3 m) (m .running))) v → All P (living (o .after))
   each-after v o w s =
       let q : All P (queue v m) = All-append P (moved v m .on) (moved v m .ready) (on-each v) (ready-each v s) in
       all-living P (o .after)
       (subst (All P) (sym (w .runs)) (All-front P (queue v m) q))
+      (subst (λ (ss : List Seat). All P (seated-in ss)) (sym (w .elsewhere)) (others-each v))
       (subst (All P) (sym (w .ready)) (All-rest P (queue v m) q))
       (subst (λ (ws : List Waiter). All P (map process ws)) (sym (w .waiting)) (All-over P process (moved v m .waiting) (waiting-each v)))
 

@@ -24,7 +24,7 @@ use Rattle.rules.specs.Words.{if_then_else_, first, those, any, front, rest, wi
 use Rattle.rules.specs.Numbers.{top, sub-devices}
 use Rattle.rules.proofs.Cases.{if-cases, first-cases, single-cases, getD-past, and-left}
 use Rattle.rules.proofs.Lines.{those-append}
-use Rattle.rules.specs.Machine.{Process, Waiter, Machine, with-sem, living, living-of, ceiling, nucleus-waits, at, line, back, block, dispatch, wake, wake-all, named, family, family-of, kill, lowest-free, child-of, newborn, birth, longer, gap, charge}
+use Rattle.rules.specs.Machine.{Process, Waiter, Machine, with-sem, living, living-of, ceiling, nucleus-waits, at, line, back, block, dispatch, wake, wake-all, named, family, kill, lowest-free, child-of, newborn, birth, longer, gap, charge}
 use Rattle.rules.proofs.Living.{sum-charged-same}
 use Rattle.rules.specs.Answers.{Outcome, plain, mask, giving, bearing, ending, waking, naming}
 use Rattle.rules.specs.Rules
@@ -33,7 +33,7 @@ use Rattle.rules.proofs.Walk.{charge-single, kill-none}
 use Rattle.rules.proofs.Laws.{accepts, passed}
 use Rattle.ledger.proofs.Lists.{no-one, everyone, any-many, those-alike, nobody-passes, somebody-passes}
 use Rattle.ledger.specs.Kills.{passed-up, terminates, valid-name, target-by, target}
-use Rattle.ledger.specs.Moves.{Move, none, steps-back, joins, first-wakes, all-wake, is-born, ends, creates, call-moves, carried-out, move, moved, woken, ended, Moved}
+use Rattle.ledger.specs.Moves.{Move, none, steps-back, joins, first-wakes, all-wake, is-born, ends, creates, call-moves, carried-out, move, moved, others, left, woken, ended, Moved}
 
 -- ── Whoever runs goes on, or the first in the ready line runs: from the machine k, with the answer so far x ──
 
@@ -43,22 +43,24 @@ record Settles (x : Answer) (k : Machine) (o : Outcome) : Type 0 where
   waiting : o .after .waiting ≡ k .waiting
   woken-mask : o .answer .woken ≡ x .woken
   ended-mask : o .answer .ended ≡ x .ended
+  elsewhere : o .after .elsewhere ≡ k .elsewhere
+  idled-mask : o .answer .idled ≡ x .idled
 
 goes-on : (x : Answer) (p : Process) (a : Action) (k : Machine) → k .running ≡ p ∷ [] → Settles x k (act a x k)
-goes-on x p a k r = record { runs = r ∙ ap (λ (ps : List Process). front (ps ++ k .ready)) (sym r); ready = ap (λ (ps : List Process). rest (ps ++ k .ready)) (sym r); waiting = refl; woken-mask = refl; ended-mask = refl }
+goes-on x p a k r = record { runs = r ∙ ap (λ (ps : List Process). front (ps ++ k .ready)) (sym r); ready = ap (λ (ps : List Process). rest (ps ++ k .ready)) (sym r); waiting = refl; woken-mask = refl; ended-mask = refl; elsewhere = refl; idled-mask = refl }
 
 -- nobody is there to run
 rests : (x : Answer) (k : Machine) (o : Outcome) → k .running ≡ [] → k .ready ≡ []
-    → o .after .running ≡ k .running → o .after .ready ≡ k .ready → o .after .waiting ≡ k .waiting → o .answer .woken ≡ x .woken → o .answer .ended ≡ x .ended → Settles x k o
-rests x k o r e a b c d f = record { runs = a ∙ r ∙ sym (ap₂ (λ (ps qs : List Process). front (ps ++ qs)) r e); ready = b ∙ e ∙ sym (ap₂ (λ (ps qs : List Process). rest (ps ++ qs)) r e); waiting = c; woken-mask = d; ended-mask = f }
+    → o .after .running ≡ k .running → o .after .ready ≡ k .ready → o .after .waiting ≡ k .waiting → o .answer .woken ≡ x .woken → o .answer .ended ≡ x .ended → o .after .elsewhere ≡ k .elsewhere → o .answer .idled ≡ x .idled → Settles x k o
+rests x k o r e a b c d f g h = record { runs = a ∙ r ∙ sym (ap₂ (λ (ps qs : List Process). front (ps ++ qs)) r e); ready = b ∙ e ∙ sym (ap₂ (λ (ps qs : List Process). rest (ps ++ qs)) r e); waiting = c; woken-mask = d; ended-mask = f; elsewhere = g; idled-mask = h }
 
 schedules : (x : Answer) (k : Machine) → k .running ≡ [] → Settles x k (Rules.schedule x k)
 unfolding Rules.schedule Rules.nobody-ready dispatch
 schedules x k r =
     first-cases (Settles x k) (k .ready)
-    (λ e. first-cases (Settles x k) (living k) (λ _. rests x k _ r e refl refl refl refl refl) λ p ys _.
-    if-cases (Settles x k) (nucleus-waits k) (λ _. rests x k _ r e refl refl refl refl refl) (λ _. rests x k _ r e refl refl refl refl refl))
-    (λ p ys e. record { runs = ap (λ (ps : List Process). front (ps ++ k .ready)) (sym r); ready = ap (λ (ps : List Process). rest (ps ++ k .ready)) (sym r); waiting = refl; woken-mask = refl; ended-mask = refl })
+    (λ e. first-cases (Settles x k) (living k) (λ _. rests x k _ r e refl refl refl refl refl refl refl) λ p ys _.
+    if-cases (Settles x k) (Rules.worth-waiting k) (λ _. rests x k _ r e refl refl refl refl refl refl refl) (λ _. rests x k _ r e refl refl refl refl refl refl refl))
+    (λ p ys e. record { runs = ap (λ (ps : List Process). front (ps ++ k .ready)) (sym r); ready = ap (λ (ps : List Process). rest (ps ++ k .ready)) (sym r); waiting = refl; woken-mask = refl; ended-mask = refl; elsewhere = refl; idled-mask = refl })
 
 resumes : (x : Answer) (k : Machine) → Single (k .running) → Settles x k (Rules.resume x k)
 unfolding Rules.resume Rules.carry-on
@@ -67,13 +69,15 @@ resumes x k s = single-cases (Settles x k) (k .running) s (λ r. schedules x k r
 -- ── Each change is a move ──
 
 as-move : (v : Move) (m : Machine) (x : Answer) (k : Machine) (o : Outcome) → k .running ≡ moved v m .on → k .ready ≡ moved v m .ready → k .waiting ≡ moved v m .waiting
-    → x .woken ≡ mask (woken v m) → x .ended ≡ mask (ended v m) → Settles x k o → Moved v m o
-as-move v m x k o a b c u w s = record {
+    → x .woken ≡ mask (woken v m) → x .ended ≡ mask (ended v m) → k .elsewhere ≡ others v m → x .idled ≡ left v m → Settles x k o → Moved v m o
+as-move v m x k o a b c u w d i s = record {
   runs = s .runs ∙ ap₂ (λ (ps qs : List Process). front (ps ++ qs)) a b;
   ready = s .ready ∙ ap₂ (λ (ps qs : List Process). rest (ps ++ qs)) a b;
   waiting = s .waiting ∙ c;
   woken-mask = s .woken-mask ∙ u;
   ended-mask = s .ended-mask ∙ w;
+  elsewhere = s .elsewhere ∙ d;
+  idled-mask = s .idled-mask ∙ i;
 }
 
 no-mask : 0 ≡ mask []
@@ -99,6 +103,8 @@ nobody-wakes l m o e s =
       waiting = s .waiting ∙ sym (none-gone (at l) (m .waiting) e);
       woken-mask = s .woken-mask ∙ ap (λ (ps : List Process). mask (front ps)) (sym e);
       ended-mask = s .ended-mask;
+      elsewhere = s .elsewhere;
+      idled-mask = s .idled-mask;
     }
 
 -- ── Pass up or die ──
@@ -107,8 +113,8 @@ nobody-wakes l m o e s =
 abbrev move-by : Event → Machine → Process → Move
 move-by e m p = first (target-by e m p) (if passed-up e m then none else carried-out e m) ends
 
-stays : (m : Machine) (x : Answer) (p : Process) (a : Action) → x .woken ≡ 0 → x .ended ≡ 0 → m .running ≡ p ∷ [] → Moved none m (act a x m)
-stays m x p a u w r = as-move none m x m _ refl refl refl (u ∙ no-mask) (w ∙ no-mask) (goes-on x p a m r)
+stays : (m : Machine) (x : Answer) (p : Process) (a : Action) → x .woken ≡ 0 → x .ended ≡ 0 → x .idled ≡ 0 → m .running ≡ p ∷ [] → Moved none m (act a x m)
+stays m x p a u w i r = as-move none m x m _ refl refl refl (u ∙ no-mask) (w ∙ no-mask) refl i (goes-on x p a m r)
 
 -- the spared of the ready line, and behind them whoever ran and is spared
 pub spared-behind : (n : ℕ) (m : Machine) → those (λ p. not (family n p)) (m .ready ++ m .running) ≡ kill n m .ready ++ kill n m .running
@@ -118,9 +124,9 @@ spared-behind n m = those-append (λ p. not (family n p)) (m .ready) (m .running
 dies : (n : ℕ) (p : Process) (m : Machine) → family n p ≡ true → m .running ≡ p ∷ [] → Moved (ends n) m (Rules.die n m)
 unfolding Rules.die kill
 dies n p m f r =
-    as-move (ends n) m (ending (family-of n m) plain) (kill n m) _ (kill-none n p m r f)
+    as-move (ends n) m (ending n m plain) (kill n m) _ (kill-none n p m r f)
     (sym (spared-behind n m ∙ ap (λ (ps : List Process). kill n m .ready ++ ps) (kill-none n p m r f) ∙ append-nil (kill n m .ready)))
-    refl no-mask refl (schedules _ _ (kill-none n p m r f))
+    refl no-mask refl refl refl (schedules _ _ (kill-none n p m r f))
 
 own-family : (p : Process) → family (p .id) p ≡ true
 unfolding family
@@ -132,7 +138,7 @@ passes-or-dies e c p m up r = rw up (go (eqb (p .handle) 0))
   where
     go : (b : Bool) → Moved (first (if b then p .id ∷ [] else []) none ends) m (if b then Rules.die (p .id) m else act (PassUp (p .slot) c) plain m)
     go true = dies (p .id) p m (own-family p) r
-    go false = stays m plain p _ refl refl r
+    go false = stays m plain p _ refl refl refl r
 
 -- an event that is carried out and ends nobody
 carried : (e : Event) (m : Machine) (p : Process) (o : Outcome) (v : Move) → passed-up e m ≡ false → terminates e p ≡ [] → carried-out e m ≡ v → Moved v m o → Moved (move-by e m p) m o
@@ -153,43 +159,43 @@ create now p a1 a2 a3 m r =
     x = giving (pos (m .next)) (bearing (lowest-free m) plain)
 
     go : (b : Bool) → Moved (if b then none else is-born a2 a3) m (if b then Rules.carry-on p (giving (negsuc 0) plain) m else Rules.carry-on p x (birth p a2 a3 m))
-    go true = stays m (giving (negsuc 0) plain) p _ refl refl r
+    go true = stays m (giving (negsuc 0) plain) p _ refl refl refl r
     go false =
-        as-move (is-born a2 a3) m x (birth p a2 a3 m) _ refl (ap (λ (rs : List Process). m .ready ++ map (λ q. newborn q a2 a3 m) rs) (sym r)) refl no-mask no-mask
+        as-move (is-born a2 a3) m x (birth p a2 a3 m) _ refl (ap (λ (rs : List Process). m .ready ++ map (λ q. newborn q a2 a3 m) rs) (sym r)) refl no-mask no-mask refl refl
         (goes-on x p _ (birth p a2 a3 m) r)
 
 terminate : Serves 1 Rules.terminate
 unfolding Rules.terminate Rules.carry-on named kill back
 terminate now p a1 a2 a3 m r = named-one (if eqb a1 0 then p .id else a1)
   where
-    others : Process → Outcome
-    others q =
+    ending-of : Process → Outcome
+    ending-of q =
         if family (q .id) p then Rules.die (q .id) m
-        else Rules.schedule (giving (pos 0) (ending (family-of (q .id) m) plain)) (back (kill (q .id) m))
+        else Rules.schedule (giving (pos 0) (ending (q .id) m plain)) (back (kill (q .id) m))
 
     -- who has the id, and may be named
     t : ℕ → Process → Bool
     t n q = eqb n (q .id) && Rules.may-name p q
 
-    named-one : (n : ℕ) → Moved (first (if any (t n) (living m) then n ∷ [] else []) none ends) m (first (those (t n) (living m)) (Rules.carry-on p (giving (negsuc 0) plain) m) others)
+    named-one : (n : ℕ) → Moved (first (if any (t n) (living m) then n ∷ [] else []) none ends) m (first (those (t n) (living m)) (Rules.carry-on p (giving (negsuc 0) plain) m) ending-of)
     named-one n =
         first-cases (Moved (first (if any (t n) (living m) then n ∷ [] else []) none ends) m) (those (t n) (living m))
-        (λ e. rw (nobody-passes (t n) (living m) e) (stays m (giving (negsuc 0) plain) p _ refl refl r))
+        (λ e. rw (nobody-passes (t n) (living m) e) (stays m (giving (negsuc 0) plain) p _ refl refl refl r))
         (λ q qs e.
         let k = somebody-passes (t n) (living m) q qs e in
         let z : n ≡ q .id = eqb-true n (q .id) (and-left (eqb n (q .id)) (Rules.may-name p q) (k .1)) in
-        rw (k .0) (subst (λ (j : ℕ). Moved (ends j) m (others q)) (sym z)
+        rw (k .0) (subst (λ (j : ℕ). Moved (ends j) m (ending-of q)) (sym z)
         (if-cases (Moved (ends (q .id)) m) (family (q .id) p) (λ f. dies (q .id) p m f r)
-        (λ f. as-move (ends (q .id)) m (giving (pos 0) (ending (family-of (q .id) m) plain)) (back (kill (q .id) m)) _ refl (sym (spared-behind (q .id) m)) refl no-mask refl
+        (λ f. as-move (ends (q .id)) m (giving (pos 0) (ending (q .id) m plain)) (back (kill (q .id) m)) _ refl (sym (spared-behind (q .id) m)) refl no-mask refl refl refl
         (schedules _ (back (kill (q .id) m)) refl)))))
 
-blocks : (l : Line) (x : Answer) (m : Machine) → x .woken ≡ 0 → x .ended ≡ 0 → Moved (joins l) m (Rules.schedule x (block l m))
+blocks : (l : Line) (x : Answer) (m : Machine) → x .woken ≡ 0 → x .ended ≡ 0 → x .idled ≡ 0 → Moved (joins l) m (Rules.schedule x (block l m))
 unfolding block
-blocks l x m u w = as-move (joins l) m x (block l m) _ refl refl refl (u ∙ no-mask) (w ∙ no-mask) (schedules x (block l m) refl)
+blocks l x m u w i = as-move (joins l) m x (block l m) _ refl refl refl (u ∙ no-mask) (w ∙ no-mask) refl i (schedules x (block l m) refl)
 
 steps : (m : Machine) → Moved steps-back m (Rules.schedule plain (back m))
 unfolding back
-steps m = as-move steps-back m plain (back m) _ refl refl refl no-mask no-mask (schedules plain (back m) refl)
+steps m = as-move steps-back m plain (back m) _ refl refl refl no-mask no-mask refl refl (schedules plain (back m) refl)
 
 passeren : Serves 2 Rules.passeren
 unfolding Rules.passeren Rules.carry-on Rules.trap
@@ -200,8 +206,8 @@ passeren now p a1 a2 a3 m r = go (Rules.exists a1 m) refl
 
     taken : (c : Bool) → Rules.exists a1 m ≡ true → eqb (Rules.value a1 m) 0 ≡ c
         → Moved (move-by e m p) m (if c then Rules.schedule plain (block (Semaphore a1) m) else Rules.carry-on p plain (with-sem a1 (Rules.value a1 m - 1) m))
-    taken true here q = carried e m p _ (joins (Semaphore a1)) (rw here) refl (rw q) (blocks (Semaphore a1) plain m refl refl)
-    taken false here q = carried e m p _ none (rw here) refl (rw q) (as-move none m plain (with-sem a1 (Rules.value a1 m - 1) m) _ refl refl refl no-mask no-mask (goes-on plain p _ _ r))
+    taken true here q = carried e m p _ (joins (Semaphore a1)) (rw here) refl (rw q) (blocks (Semaphore a1) plain m refl refl refl)
+    taken false here q = carried e m p _ none (rw here) refl (rw q) (as-move none m plain (with-sem a1 (Rules.value a1 m - 1) m) _ refl refl refl no-mask no-mask refl refl (goes-on plain p _ _ r))
 
     go : (b : Bool) → Rules.exists a1 m ≡ b
         → Moved (move-by e m p) m (if b then (if eqb (Rules.value a1 m) 0 then Rules.schedule plain (block (Semaphore a1) m) else Rules.carry-on p plain (with-sem a1 (Rules.value a1 m - 1) m)) else Rules.trap p m)
@@ -224,8 +230,8 @@ verhogen now p a1 a2 a3 m r = go (Rules.may-rise a1 m) refl
     go : (b : Bool) → Rules.may-rise a1 m ≡ b → Moved (move-by e m p) m (if b then served else Rules.trap p m)
     go true may = carried e m p _ (first-wakes l) (rw may) refl refl
         (first-cases (Moved (first-wakes l) m) (line l m)
-        (λ f. nobody-wakes l m _ f (as-move none m plain (with-sem a1 (Rules.value a1 m + 1) m) _ refl refl refl no-mask no-mask (goes-on plain p _ _ r)))
-        (λ q ys f. as-move (first-wakes l) m (waking (q ∷ []) plain) (wake l m) _ refl refl refl (ap (λ (ps : List Process). mask (front ps)) (sym f)) no-mask (goes-on _ p _ (wake l m) r)))
+        (λ f. nobody-wakes l m _ f (as-move none m plain (with-sem a1 (Rules.value a1 m + 1) m) _ refl refl refl no-mask no-mask refl refl (goes-on plain p _ _ r)))
+        (λ q ys f. as-move (first-wakes l) m (waking (q ∷ []) plain) (wake l m) _ refl refl refl (ap (λ (ps : List Process). mask (front ps)) (sym f)) no-mask refl refl (goes-on _ p _ (wake l m) r)))
     go false shut = passes-or-dies e General p m (rw shut) r
 
 do-io : Serves 4 Rules.do-io
@@ -236,24 +242,24 @@ do-io now p a1 a2 a3 m r = go (ltb a1 sub-devices) refl
     e = Call now Kernel (negsuc 4) a1 a2 a3
 
     go : (b : Bool) → ltb a1 sub-devices ≡ b → Moved (move-by e m p) m (if b then Rules.schedule (naming a1 plain) (block (Device a1) m) else Rules.trap p m)
-    go true q = carried e m p _ (joins (Device a1)) (lt-leb sub-devices a1 (ltb-true a1 sub-devices q)) refl refl (blocks (Device a1) (naming a1 plain) m refl refl)
+    go true q = carried e m p _ (joins (Device a1)) (lt-leb sub-devices a1 (ltb-true a1 sub-devices q)) refl refl (blocks (Device a1) (naming a1 plain) m refl refl refl)
     go false q = passes-or-dies e General p m (le-leb sub-devices a1 (ltb-false a1 sub-devices q)) r
 
 cpu-time : Serves 5 Rules.cpu-time
 unfolding Rules.cpu-time Rules.carry-on
-cpu-time now p a1 a2 a3 m r = stays m (giving _ plain) p _ refl refl r
+cpu-time now p a1 a2 a3 m r = stays m (giving _ plain) p _ refl refl refl r
 
 wait-clock : Serves 6 Rules.wait-clock
 unfolding Rules.wait-clock
-wait-clock now p a1 a2 a3 m r = blocks PseudoClock plain m refl refl
+wait-clock now p a1 a2 a3 m r = blocks PseudoClock plain m refl refl refl
 
 support : Serves 7 Rules.support
 unfolding Rules.support Rules.carry-on
-support now p a1 a2 a3 m r = stays m (giving _ plain) p _ refl refl r
+support now p a1 a2 a3 m r = stays m (giving _ plain) p _ refl refl refl r
 
 identity : Serves 8 Rules.identity
 unfolding Rules.identity Rules.carry-on
-identity now p a1 a2 a3 m r = stays m (giving _ plain) p _ refl refl r
+identity now p a1 a2 a3 m r = stays m (giving _ plain) p _ refl refl refl r
 
 yield : Serves 9 Rules.yield
 unfolding Rules.yield
@@ -300,11 +306,11 @@ interrupt n x y m s k = go (eqb n 1) (eqb n 2) k
         → Moved (if b then steps-back else (if c then all-wake PseudoClock else first-wakes l)) m
         (if b then Rules.runner m (λ p. Rules.schedule plain (back m)) else (if c then Rules.tick m else Rules.device-done d m))
     go true c k = single-cases (Moved steps-back m) (m .running) s (λ r. absurd (true≢false (rw r at k))) (λ p r. steps m)
-    go false true k = as-move (all-wake PseudoClock) m (waking (line PseudoClock m) plain) (wake-all PseudoClock m) _ refl refl refl refl no-mask (resumes _ _ s)
+    go false true k = as-move (all-wake PseudoClock) m (waking (line PseudoClock m) plain) (wake-all PseudoClock m) _ refl refl refl refl no-mask refl refl (resumes _ _ s)
     go false false k =
         first-cases (Moved (first-wakes l) m) (line l m)
-        (λ f. nobody-wakes l m _ f (as-move none m (naming d plain) m _ refl refl refl no-mask no-mask (resumes _ m s)))
-        (λ q ys f. as-move (first-wakes l) m (naming d (waking (q ∷ []) plain)) (wake l m) _ refl refl refl (ap (λ (ps : List Process). mask (front ps)) (sym f)) no-mask (resumes _ (wake l m) s))
+        (λ f. nobody-wakes l m _ f (as-move none m (naming d plain) m _ refl refl refl no-mask no-mask refl refl (resumes _ m s)))
+        (λ q ys f. as-move (first-wakes l) m (naming d (waking (q ∷ []) plain)) (wake l m) _ refl refl refl (ap (λ (ps : List Process). mask (front ps)) (sym f)) no-mask refl refl (resumes _ (wake l m) s))
 
 performed : (e : Event) (m : Machine) → Single (m .running) → Rules.needs-runner e && first (m .running) true (λ p. false) ≡ false → Moved (move e m) m (Rules.perform e m)
 unfolding Rules.call Rules.exception Rules.needs-runner Rules.trap Rules.tlb

@@ -3,15 +3,17 @@ use mathlib.Core.Path.{_≡_, refl, sym, subst}
 use mathlib.Core.Bool.{Bool, true, false, _&&_, _||_}
 use mathlib.Core.List.{List, [], _∷_, map}
 use Prim.Native.Nat.{ℕ, zero, suc, _+_, _-_, _*_, _/_, _%_, _^_, _≤_, _<_}
-use native.Mathlib.Nat.{pow-suc}
+use native.Mathlib.Nat.{pow-suc, add-zero, zero-add, add-suc, suc-add}
 use native.Mathlib.Omega.{arith}
 use lib.Dec.{eqb, leb, ltb}
+use lib.ListN.{length, replicate}
 use lib.IntN.{ℤ, pos, negsuc}
 use lib.Pow.{pow-pos}
 use borrow.Author.Tests.{eqb-false, leb-true, leb-false, ltb-true, ltb-false, le-leb}
 use Rattle.rules.specs.declared.Mode.{Mode}
 use Rattle.rules.specs.declared.Mode.the-variants.{User, Kernel}
 use Rattle.rules.specs.declared.Event.{Event}
+use Rattle.rules.specs.declared.Arrival.{Arrival}
 use Rattle.rules.specs.declared.Event.the-variants.{Call, Interrupt, Exception}
 use Rattle.rules.specs.declared.Line.the-variants.{Semaphore, Device}
 use Rattle.rules.specs.declared.Cause.{Cause}
@@ -21,23 +23,25 @@ use Rattle.rules.specs.declared.Result.{Result}
 use Rattle.rules.specs.declared.Part.{Part}
 use Rattle.rules.specs.declared.Part.the-variants.{Absent, Number}
 use Rattle.rules.specs.declared.Answer.{Answer}
-use Rattle.rules.specs.Words.{if_then_else_, first, those, sum, count, many, All}
+use Rattle.rules.specs.Words.{if_then_else_, first, those, any, sum, count, many, All}
 use Rattle.rules.specs.Numbers.{time-limit, sub-devices}
-use Rattle.rules.proofs.Cases.{if-cases, first-cases, All-over, getD-cases}
+use Rattle.rules.proofs.Cases.{if-cases, first-cases, All-map, All-over, getD-cases}
 use Rattle.rules.proofs.Sums.{sum-over, sum-front}
-use Rattle.rules.specs.Machine.{Process, Machine, living, at, line, nucleus-waits, family, longer, child-of, newborn, gap, charge, fresh}
-use Rattle.rules.proofs.Living.{living-sum, sum-killed, each-charged, all-running}
-use Rattle.rules.specs.Answers.{Outcome, plain, mask, doing, giving}
+use Rattle.rules.specs.Machine.{Process, Seat, Machine, living, at, line, nucleus-waits, family, rid-of, longer, child-of, newborn, gap, charge, blank, processors, here, turn, idle-from, fresh}
+use Rattle.rules.proofs.Living.{living-sum, sum-killed, each-charged, all-running, fresh-living}
+use Rattle.rules.specs.Answers.{Outcome, plain, mask, doing, giving, processors-of, left-idle}
 use Rattle.rules.specs.Rules
-use Rattle.rules.specs.Rules.{Service, step, run, answers, lowest-bit, sub-device, bad-line}
+use Rattle.rules.specs.Rules.{Service, step, arrive, answers, run, lowest-bit, sub-device, bad-line}
 use Rattle.rules.proofs.Laws.{accepts, passed}
 use Rattle.rules.proofs.Sound.{or-left, or-right, issued, seated, sound-charged, named-after}
 use Rattle.rules.specs.Tables.{Sound, in-slot, Tables}
 use Rattle.rules.proofs.Walk.{charge-single}
-use Rattle.rules.proofs.Tables.{keeps, sound, short}
+use Rattle.rules.proofs.Tables.{keeps, tables-turned, arrives, sound, short}
+use Rattle.rules.proofs.Turns.{all-get, all-set, turn-cases, same-taken}
+use Rattle.rules.proofs.Arrivals.{arrive-cases}
 use Rattle.ledger.specs.History.{a2-of}
 use Rattle.ledger.specs.Ids.{Newborn-told}
-use Rattle.ledger.specs.Moves.{Move, none, steps-back, joins, first-wakes, all-wake, is-born, ends, move, woken, ended, Moved}
+use Rattle.ledger.specs.Moves.{Move, none, steps-back, joins, first-wakes, all-wake, is-born, ends, move, others, left, woken, ended, Moved}
 use Rattle.ledger.specs.Ranges.{word, byte, long, Well-formed, Ranged, Fits-result, Below, Fits}
 use Rattle.ledger.proofs.Lines.{line-few}
 use Rattle.ledger.proofs.Each.{a3-of, moved-each}
@@ -126,7 +130,7 @@ unfolding Rules.schedule Rules.nobody-ready
 schedule-neat x m h =
     let same : (a : Action) → Neat (doing a x) = λ a. record { result = h .result; device = h .device } in
     first-cases Ends-neat (m .ready)
-    (λ _. first-cases Ends-neat (living m) (λ _. same _) λ _ _ _. if-cases Ends-neat (nucleus-waits m) (λ _. same _) (λ _. same _))
+    (λ _. first-cases Ends-neat (living m) (λ _. same _) λ _ _ _. if-cases Ends-neat (Rules.worth-waiting m) (λ _. same _) (λ _. same _))
     (λ p ys _. same _)
 
 carry-neat : (p : Process) (x : Answer) (m : Machine) → Neat x → Ends-neat (Rules.carry-on p x m)
@@ -225,7 +229,7 @@ interrupt now n x y m ok fx fy =
 
 -- ── Who calls ──
 
-module _ (slots sems customers : ℕ) (m : Machine) (e : Event) (t : Tables slots sems customers m) (w : Ranged m) (ok : Rules.refusal m e ≡ 0) where
+module _ (slots sems customers seats : ℕ) (m : Machine) (e : Event) (t : Tables slots sems customers seats m) (w : Ranged m) (ok : Rules.refusal m e ≡ 0) where
   abbrev g : ℕ
   g = gap (Rules.clock e) m
 
@@ -244,7 +248,7 @@ module _ (slots sems customers : ℕ) (m : Machine) (e : Event) (t : Tables slot
   unfolding charge
   callers =
       All-over (λ p. Caller p m₁) (longer g) (m .running)
-      (go (m .running) (all-running _ m (short slots sems customers m t)) (all-running _ m (w .words)) (all-running _ m (issued m (sound slots sems customers m t))) (all-running _ m (t .older)))
+      (go (m .running) (all-running _ m (short slots sems customers seats m t)) (all-running _ m (w .words)) (all-running _ m (issued m (sound slots sems customers seats m t))) (all-running _ m (t .older)))
     where
       go : (ps : List Process) → All (λ p. p .time ≤ m .total) ps → All (λ p. (p .priority < word) × (p .handle < word)) ps → All (λ p. p .id < m .next) ps
           → All (λ p. (1 ≤ p .id) × All (λ a. a < p .id) (p .ancestors)) ps → All (λ p. Caller (longer g p) m₁) ps
@@ -293,6 +297,34 @@ ended-sum f (all-wake l) m = omega arith
 ended-sum f (is-born a2 a3) m = omega arith
 ended-sum f (ends n) m = omega (arith, sum-killed f n m)
 
+-- 02, (xiii): a mask of processors has a bit for each
+processors-within : (t : Process → Bool) (n : ℕ) (ss : List Seat) → processors-of t n ss + 2 ^ n ≤ 2 ^ (n + length ss)
+processors-within t n [] = rw add-zero (omega arith)
+processors-within t n (s ∷ ss) = rw (add-suc, ← suc-add) (go (any t (s .running)) (processors-within t (suc n) ss))
+  where
+    go : (b : Bool) → processors-of t (suc n) ss + 2 ^ suc n ≤ 2 ^ (suc n + length ss) → (if b then 2 ^ n else 0) + processors-of t (suc n) ss + 2 ^ n ≤ 2 ^ (suc n + length ss)
+    go true ih = omega (arith, ih, pow-suc 2 n)
+    go false ih = omega (arith, ih, pow-suc 2 n)
+
+left-within : (v : Move) (m : Machine) → left v m < 2 ^ processors m
+unfolding left-idle
+left-within none m = pow-pos (processors m)
+left-within steps-back m = pow-pos (processors m)
+left-within (joins l) m = pow-pos (processors m)
+left-within (first-wakes l) m = pow-pos (processors m)
+left-within (all-wake l) m = pow-pos (processors m)
+left-within (is-born a2 a3) m = pow-pos (processors m)
+left-within (ends n) m = omega (arith, rw zero-add at (processors-within (family n) 0 (m .elsewhere)))
+
+lasts-within : (v : Move) (m : Machine) → All (λ s. s .last < word) (m .elsewhere) → All (λ s. s .last < word) (others v m)
+lasts-within none m h = h
+lasts-within steps-back m h = h
+lasts-within (joins l) m h = h
+lasts-within (first-wakes l) m h = h
+lasts-within (all-wake l) m h = h
+lasts-within (is-born a2 a3) m h = h
+lasts-within (ends n) m h = All-map (λ s. s .last < word) (rid-of n) (λ s k. k) (m .elsewhere) h
+
 -- ── What the machine keeps ──
 
 Words : Process → Type 0
@@ -329,12 +361,12 @@ refusal-within : (m : Machine) (e : Event) → Rules.refusal m e < byte
 unfolding Rules.refusal Rules.rows
 refusal-within m e = number-within (Rules.rows m e) (omega arith, (omega arith, (omega arith, (omega arith, (omega arith, (omega arith, tt))))))
 
-pub record In-range (slots : ℕ) (o : Outcome) : Type 0 where
+pub record In-range (slots seats : ℕ) (o : Outcome) : Type 0 where
   pub kept : Ranged (o .after)
-  pub said : Fits slots (o .answer)
+  pub said : Fits slots seats (o .answer)
 
-module _ (slots sems customers : ℕ) (m : Machine) (e : Event) (t : Tables slots sems customers m) (w : Ranged m) (f : Well-formed e) where
-  accepted-range : Rules.refusal m e ≡ 0 → In-range slots (step m e)
+module _ (slots sems customers seats : ℕ) (m : Machine) (e : Event) (t : Tables slots sems customers seats m) (w : Ranged m) (f : Well-formed e) where
+  accepted-range : Rules.refusal m e ≡ 0 → In-range slots seats (step m e)
   unfolding Rules.rows charge Words
   accepted-range ok =
       let now = Rules.clock e in
@@ -342,39 +374,67 @@ module _ (slots sems customers : ℕ) (m : Machine) (e : Event) (t : Tables slot
       let o = Rules.perform e k in
       let one = charge-single now m (t .one-runs) in
       let a = answered e k one in
-      let n = performs-neat e k f (passed m e ok .1 .0) (callers slots sems customers m e t w ok) in
+      let n = performs-neat e k f (passed m e ok .1 .0) (callers slots sems customers seats m e t w ok) in
       let v : Moved (move e m) k o = rw (accepts m e ok) at (moves-hold m e (t .one-runs) ok) in
-      let t′ : Tables slots sems customers (o .after) = rw (accepts m e ok) at (keeps slots sems customers m e t) in
-      let g = sound-charged now m (sound slots sems customers m t) in
+      let t′ : Tables slots sems customers seats (o .after) = rw (accepts m e ok) at (keeps slots sems customers seats m e t) in
+      let g = sound-charged now m (sound slots sems customers seats m t) in
       rw (accepts m e ok) record {
-        kept = record { last = subst (λ (i : ℕ). i < word) (sym (a .1)) (clock-within e f); words = moved-each Words m e o v (each-charged Words (λ g p h. h) now m (w .words)) (newborn-words e k f (k .running)) };
+        kept = record { last = subst (λ (i : ℕ). i < word) (sym (a .1)) (clock-within e f); lasts = subst (All (λ s. s .last < word)) (sym (v .elsewhere)) (lasts-within (move e m) k (w .lasts)); words = moved-each Words m e o v (each-charged Words (λ g p h. h) now m (w .words)) (newborn-words e k f (k .running)) };
         said = record {
           refusal = omega (arith, a .0);
-          runner = subst (All (λ s. s < slots)) (named-after k e one .1) (All-over (λ s. s < slots) (λ p. p .slot) (o .after .running) (all-running (λ p. p .slot < slots) (o .after) (subst (λ (i : ℕ). All (λ p. p .slot < i) (living (o .after))) (t′ .slots-there) (seated (o .after) (sound slots sems customers (o .after) t′)))));
+          runner = subst (All (λ s. s < slots)) (named-after k e one .1) (All-over (λ s. s < slots) (λ p. p .slot) (o .after .running) (all-running (λ p. p .slot < slots) (o .after) (subst (λ (i : ℕ). All (λ p. p .slot < i) (living (o .after))) (t′ .slots-there) (seated (o .after) (sound slots sems customers seats (o .after) t′)))));
           result = n .result;
-          newborn = newborn-within slots (o .answer .newborn) (o .answer .result) m (t .slots-there) (rw (accepts m e ok) at (newborn-told m e (sound slots sems customers m t, t .one-runs)));
+          newborn = newborn-within slots (o .answer .newborn) (o .answer .result) m (t .slots-there) (rw (accepts m e ok) at (newborn-told m e (sound slots sems customers seats m t, t .one-runs, t .one-each)));
           device = n .device;
           woken = subst (λ (i : ℕ). i < 2 ^ slots) (sym (v .woken-mask)) (mask-of slots k (woken (move e m) k) g (t .slots-there) (λ f. woken-sum f (move e m) k));
           ended = subst (λ (i : ℕ). i < 2 ^ slots) (sym (v .ended-mask)) (mask-of slots k (ended (move e m) k) g (t .slots-there) (λ f. ended-sum f (move e m) k));
+          idled = subst (λ (i : ℕ). i < 2 ^ seats) (sym (v .idled-mask)) (subst (λ (i : ℕ). left (move e m) k < 2 ^ i) (t .processors-there) (left-within (move e m) k));
         };
       }
 
-  pub in-range : In-range slots (step m e)
+  pub in-range : In-range slots seats (step m e)
   unfolding Rules.refused
-  in-range = by-verdict (In-range slots) m e accepted-range (λ _. record {
+  in-range = by-verdict (In-range slots seats) m e accepted-range (λ _. record {
     kept = w;
-    said = record { refusal = refusal-within m e; runner = tt; result = tt; newborn = tt; device = tt; woken = pow-pos slots; ended = pow-pos slots };
+    said = record { refusal = refusal-within m e; runner = tt; result = tt; newborn = tt; device = tt; woken = pow-pos slots; ended = pow-pos slots; idled = pow-pos seats };
   })
 
+-- a seat is taken
+pub ranged-turned : (k : ℕ) (m : Machine) → Ranged m → Ranged (turn k m)
+unfolding Words
+ranged-turned k m w = turn-cases Ranged k m w (λ l. record {
+  last = all-get (λ s. s .last < word) blank (m .elsewhere) k (omega arith) (w .lasts);
+  lasts = all-set (λ s. s .last < word) (m .elsewhere) k (here m) (w .last) (w .lasts);
+  words = same-taken k m l .each Words (w .words);
+})
+
+arrives-within : (slots sems customers seats : ℕ) (m : Machine) (x : Arrival) → Tables slots sems customers seats m → Ranged m → Well-formed (x .event) → In-range slots seats (arrive m x)
+unfolding Rules.refused
+arrives-within slots sems customers seats m x t w f =
+    let k = x .processor in
+    arrive-cases (In-range slots seats) m x
+    (let i = in-range slots sems customers seats (turn k m) (x .event) (tables-turned slots sems customers seats k m t) (ranged-turned k m w) f in
+    record { kept = ranged-turned k _ (i .kept); said = i .said })
+    (record { kept = w; said = record { refusal = omega arith; runner = tt; result = tt; newborn = tt; device = tt; woken = pow-pos slots; ended = pow-pos slots; idled = pow-pos seats } })
+
 -- any events: the machine after them, and each answer
-pub ranges-hold : (slots sems customers : ℕ) (es : List Event) (m : Machine) → Tables slots sems customers m → Ranged m → All Well-formed es → Ranged (run m es) × All (Fits slots) (answers m es)
+pub ranges-hold : (slots sems customers seats : ℕ) (xs : List Arrival) (m : Machine) → Tables slots sems customers seats m → Ranged m → All (λ x. Well-formed (x .event)) xs
+    → Ranged (run m xs) × All (Fits slots seats) (answers m xs)
 unfolding run answers
-ranges-hold slots sems customers [] m t w f = (w, tt)
-ranges-hold slots sems customers (e ∷ es) m t w f =
-    let i = in-range slots sems customers m e t w (f .0) in
-    let k = ranges-hold slots sems customers es (step m e .after) (keeps slots sems customers m e t) (i .kept) (f .1) in
+ranges-hold slots sems customers seats [] m t w f = (w, tt)
+ranges-hold slots sems customers seats (x ∷ xs) m t w f =
+    let i = arrives-within slots sems customers seats m x t w (f .0) in
+    let k = ranges-hold slots sems customers seats xs (arrive m x .after) (arrives slots sems customers seats m x t) (i .kept) (f .1) in
     (k .0, (i .said, k .1))
 
-pub fresh-ranged : (slots now : ℕ) (values ceilings : List ℕ) → now < word → Ranged (fresh slots now values ceilings)
-unfolding fresh living
-fresh-ranged slots now values ceilings h = record { last = h; words = ((omega arith, omega arith), tt) }
+idle-lasts : (n now : ℕ) → now < word → All (λ s. s .last < word) (replicate n (idle-from now))
+idle-lasts zero now h = tt
+idle-lasts (suc n) now h = (h, idle-lasts n now h)
+
+pub fresh-ranged : (slots others now : ℕ) (values ceilings : List ℕ) → now < word → Ranged (fresh slots others now values ceilings)
+unfolding fresh
+fresh-ranged slots others now values ceilings h = record {
+  last = h;
+  lasts = (omega arith, idle-lasts others now h);
+  words = rw (fresh-living slots others now values ceilings) ((omega arith, omega arith), tt);
+}

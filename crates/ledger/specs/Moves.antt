@@ -12,8 +12,8 @@ use Rattle.rules.specs.declared.Event.the-variants.{Call, Interrupt, Exception}
 use Rattle.rules.specs.declared.Line.{Line}
 use Rattle.rules.specs.declared.Line.the-variants.{Semaphore, Device, PseudoClock}
 use Rattle.rules.specs.Words.{if_then_else_, first, those, front, rest, without}
-use Rattle.rules.specs.Machine.{Process, Waiter, Machine, at, line, family, family-of, child-of, newborn}
-use Rattle.rules.specs.Answers.{Outcome, mask}
+use Rattle.rules.specs.Machine.{Process, Waiter, Seat, Machine, at, line, family, family-of, rid-of, child-of, newborn}
+use Rattle.rules.specs.Answers.{Outcome, mask, left-idle}
 use Rattle.rules.specs.Rules.{denied, value, sub-device}
 use Rattle.ledger.specs.Kills.{passed-up, target}
 
@@ -85,6 +85,26 @@ moved (ends n) m = record {
   waiting = those (λ w. not (family n (w .process))) (m .waiting);
 }
 
+-- who runs on the other processors: as before, but for a kill
+abbrev pub others : Move → Machine → List Seat
+others none m = m .elsewhere
+others steps-back m = m .elsewhere
+others (joins l) m = m .elsewhere
+others (first-wakes l) m = m .elsewhere
+others (all-wake l) m = m .elsewhere
+others (is-born priority handle) m = m .elsewhere
+others (ends n) m = map (rid-of n) (m .elsewhere)
+
+-- 02, (xiii): "names it in a new mask"
+abbrev pub left : Move → Machine → ℕ
+left none m = 0
+left steps-back m = 0
+left (joins l) m = 0
+left (first-wakes l) m = 0
+left (all-wake l) m = 0
+left (is-born priority handle) m = 0
+left (ends n) m = left-idle n m
+
 -- "a 64-bit mask of slots woken"
 abbrev pub woken : Move → Machine → List Process
 woken none m = []
@@ -116,3 +136,5 @@ pub record Moved (v : Move) (m : Machine) (o : Outcome) : Type 0 where
   pub waiting : o .after .waiting ≡ moved v m .waiting
   pub woken-mask : o .answer .woken ≡ mask (woken v m)
   pub ended-mask : o .answer .ended ≡ mask (ended v m)
+  pub elsewhere : o .after .elsewhere ≡ others v m
+  pub idled-mask : o .answer .idled ≡ left v m

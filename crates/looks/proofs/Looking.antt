@@ -1,37 +1,42 @@
 -- What a look tells, over tables alone: the one seat of a slot, where it is, and the mask of all.
 -- Assumes nothing.
 use mathlib.Core.Path.{_≡_, refl, sym, ap, ap₂, _∙_}
-use mathlib.Core.Bool.{Bool, true, false}
-use mathlib.Core.List.{List, [], _∷_, _++_, map}
-use Prim.Native.Nat.{ℕ, zero, suc, _-_, _*_, _^_, _<_, _≤_}
+use mathlib.Core.Bool.{Bool, true, false, _||_, true≢false}
+use mathlib.Core.List.{List, [], _∷_, _++_, map, map-append}
+use Prim.Native.Nat.{ℕ, zero, suc, _+_, _-_, _*_, _^_, _<_, _≤_}
 use native.Mathlib.Nat.{one-mul, zero-mul}
 use native.Mathlib.Omega.{arith}
 use native.Mathlib.Decide.{ℕ-discrete}
 use lib.Dec.{eqb, leb, ltb}
-use borrow.Author.Tests.{leb-true, leb-false}
+use borrow.Author.Tests.{leb-true, leb-false, ltb-true, ltb-false, eq-eqb, ne-eqb}
 use lib.ListN.{length, take, getD, replicate, length-take, take-append-drop, List·getD-eq-default}
 use Rattle.rules.specs.declared.Line.the-variants.{Device}
 use Rattle.rules.specs.declared.Part.the-variants.{Absent, Number}
 use Rattle.rules.specs.Words.{if_then_else_, first, those, any, sum}
-use Rattle.rules.specs.Numbers.{base-slots}
+use Rattle.rules.specs.Numbers.{base-slots, most-processors}
 use Rattle.rules.proofs.Sums.{sum-over}
 use Rattle.rules.specs.Machine as book
-use Rattle.rules.specs.Machine.{Process, Waiter, living, living-of, ceiling}
+use Rattle.rules.specs.Machine.{Process, Waiter, on-processors, living, living-of, ceiling, blank, here}
+use Rattle.rules.specs.Tables.{idle-time}
 use Rattle.rules.specs.Answers.{mask}
-use Rattle.rules.specs.Rules.{start, run, rule-book}
+use Rattle.rules.specs.Rules.{start, all-at, run, rule-book}
 use Rattle.rules.proofs.Examples.{call}
-use Rattle.lines.specs.Lines.{Line, entry, is-zero, one, occ, mask-of-taken}
-use Rattle.lines.proofs.Occ.{one-other, sum-slots, tally-same}
+use Rattle.lines.specs.Lines.{Line, entry, tally, is-zero, one, occ, mask-of-taken}
+use Rattle.lines.proofs.Occ.{occ-append, sum-slots, tally-same}
+use Rattle.seats.specs.Seats.{table, held-slot}
+use Rattle.seats.proofs.Tabled.{table-get, table-past}
+use Rattle.seats.proofs.Told.{tally-front, tally-stop}
 use Rattle.lines.proofs.Bridge.{those-map, any-map, none-is, one-is, any-those, any-none}
 use Rattle.tables.specs.declared.Tables.{Tables}
 use Rattle.looks.specs.declared.Place.{Place}
 use Rattle.looks.specs.declared.Place.the-variants.{Nowhere, Running, Ready, Waiting}
 use Rattle.looks.specs.declared.Status.the-variants.{Panicked}
 use Rattle.tables.specs.Codes.{decode, status-of}
-use Rattle.tables.specs.View.{row, waiter, occupant, readies, waiters, seats, view, live, Shape}
+use Rattle.tables.specs.View.{row, waiter, occupant, away, seat-at, readies, waiters, seats, view, live, Shape}
 use Rattle.kin.specs.Families.{climb, parent-at}
-use Rattle.looks.specs.Looks.{who-runs, sits, who-is-in, of-slot, parent-of, place-at, row-at, in-order, readies-in-order, waiting-in-order, standing}
-use Rattle.tables.proofs.Seats.{seats-living, occ-seats, occ-nobody, occ-self, occupant-some, seat, seats-slots, living-seat, runs-one, runs-none, pos-live, live-le}
+use Rattle.looks.specs.Looks.{seat-of, who-runs, sits, who-is-in, of-slot, parent-of, place-at, row-at, in-order, readies-in-order, waiting-in-order, standing}
+use Rattle.tables.proofs.Seats.{seats-living, occ-seats, occ-nobody, seat, seats-slots, living-seat, pos-live, live-le}
+use Rattle.tables.proofs.Away.{seated-away}
 
 -- ---- what a taken slot has, and a free one has not
 of-taken : (x n : ℕ) → live x * n ≡ (if eqb x 0 then 0 else n)
@@ -67,24 +72,72 @@ occ-one : (r s : ℕ) → occ s (r ∷ []) ≡ one r s
 unfolding occ
 occ-one r s = omega arith
 
-not-running : (r s : ℕ) → (r ≡ s → ⊥) → occ s (occupant r) ≡ 0
-not-running r s n = go (ltb r base-slots)
+sum-table : {A : Type 0} (f : A → ℕ) (n : ℕ) (g : ℕ → A) → sum f (table n g) ≡ tally (λ k. f (g k)) n
+unfolding tally
+sum-table f zero g = refl
+sum-table f (suc n) g = omega (arith, sum-table f n (λ k. g (suc k)), tally-front (λ k. f (g k)) n)
+
+-- a code among those of the seats, and its slot among those that run
+held-head : (c s : ℕ) → occ s (held-slot c) ≡ (if eqb c (suc s) then 1 else 0)
+held-head zero s = occ-nobody s ∙ sym (rw (ne-eqb 0 (suc s) (λ (z : 0 ≡ suc s). let y : ⊥ = omega (arith, z) in y)) refl)
+held-head (suc r) s = occ-one r s ∙ go (ℕ-discrete r s)
   where
-    go : (b : Bool) → occ s (if b then r ∷ [] else []) ≡ 0
-    go true = omega (arith, occ-one r s, one-other r s n)
-    go false = occ-nobody s
+    go : Dec (r ≡ s) → one r s ≡ (if eqb (suc r) (suc s) then 1 else 0)
+    go (yes e) = rw (eq-eqb r s e, eq-eqb (suc r) (suc s) (ap suc e)) refl
+    go (no n) = rw (ne-eqb r s n, ne-eqb (suc r) (suc s) (λ (z : suc r ≡ suc s). n (omega (arith, z)))) refl
+
+held-by : (cs : List ℕ) (s : ℕ) → any (λ c. eqb c (suc s)) cs ≡ true → 1 ≤ occ s (away cs)
+held-by [] s e = absurd (true≢false (sym e))
+held-by (c ∷ cs) s e = go (eqb c (suc s)) (held-head c s) e (held-by cs s)
+  where
+    go : (b : Bool) → occ s (held-slot c) ≡ (if b then 1 else 0) → (b || any (λ c. eqb c (suc s)) cs) ≡ true → (any (λ c. eqb c (suc s)) cs ≡ true → 1 ≤ occ s (away cs)) → 1 ≤ occ s (held-slot c ++ away cs)
+    go true h e ih = omega (arith, occ-append s (held-slot c) (away cs), h)
+    go false h e ih = omega (arith, occ-append s (held-slot c) (away cs), ih e)
+
+held-not : (cs : List ℕ) (s : ℕ) → any (λ c. eqb c (suc s)) cs ≡ false → occ s (away cs) ≡ 0
+held-not [] s e = occ-nobody s
+held-not (c ∷ cs) s e = go (eqb c (suc s)) (held-head c s) e (held-not cs s)
+  where
+    go : (b : Bool) → occ s (held-slot c) ≡ (if b then 1 else 0) → (b || any (λ c. eqb c (suc s)) cs) ≡ false → (any (λ c. eqb c (suc s)) cs ≡ false → occ s (away cs) ≡ 0) → occ s (held-slot c ++ away cs) ≡ 0
+    go true h e ih = absurd (true≢false e)
+    go false h e ih = omega (arith, occ-append s (held-slot c) (away cs), h, ih e)
 
 module _ (m : Tables) (g : Shape m) where
   -- ---- who
-  pub runs-slot : m .running < base-slots → who-runs (view m) ≡ Number (m .running)
-  runs-slot h = ap (λ (l : List Process). first l Absent (λ p. Number (p .slot))) (runs-one m g h)
+  pub seat-told : (k : ℕ) → seat-of k (view m) ≡ seat-at m k
+  seat-told k = go (ltb k (m .processors)) refl
+    where
+      go : (b : Bool) → ltb k (m .processors) ≡ b → seat-of k (view m) ≡ seat-at m k
+      go true e = table-get (m .processors) k (seat-at m) blank (ltb-true k (m .processors) e)
+      go false e =
+          let past = ltb-false k (m .processors) e in
+          table-past (m .processors) k (seat-at m) blank past ∙ sym (rw (g .no-runner k past, g .no-last k past, g .no-idle k past) refl)
 
-  pub runs-absent : base-slots ≤ m .running → who-runs (view m) ≡ Absent
-  runs-absent h = ap (λ (l : List Process). first l Absent (λ p. Number (p .slot))) (runs-none m g h)
+  pub runs-slot : (k s : ℕ) → getD (m .runners) k 0 ≡ suc s → who-runs k (view m) ≡ Number s
+  runs-slot k s e = ap (λ (x : book.Seat). first (x .running) Absent (λ p. Number (p .slot))) (seat-told k) ∙ ap (λ c. first (map (row m) (held-slot c)) Absent (λ p. Number (p .slot))) e
+
+  pub runs-absent : (k : ℕ) → getD (m .runners) k 0 ≡ 0 → who-runs k (view m) ≡ Absent
+  runs-absent k e = ap (λ (x : book.Seat). first (x .running) Absent (λ p. Number (p .slot))) (seat-told k) ∙ ap (λ c. first (map (row m) (held-slot c)) Absent (λ p. Number (p .slot))) e
+
+  pub last-told : (k : ℕ) → seat-of k (view m) .last ≡ getD (m .lasts) k 0
+  last-told k = ap (λ (x : book.Seat). x .last) (seat-told k)
+
+  pub idle-told : (k : ℕ) → seat-of k (view m) .idle ≡ getD (m .idles) k 0
+  idle-told k = ap (λ (x : book.Seat). x .idle) (seat-told k)
+
+  -- who runs, by slots
+  runners-rows : on-processors (view m) ≡ map (row m) (occupant (m .running) ++ away (m .runners))
+  unfolding on-processors
+  runners-rows =
+      ap (λ (l : List Process). map (row m) (occupant (m .running)) ++ l) (seated-away (row m) (m .runners) (m .processors) (λ k. getD (m .lasts) k 0) (λ k. getD (m .idles) k 0) (g .no-runner))
+      ∙ sym (map-append (row m) (occupant (m .running)) (away (m .runners)))
+
+  on-seats : (s : ℕ) → occ s (occupant (m .running) ++ away (m .runners)) ≡ occ s (occupant (m .running)) + occ s (away (m .runners))
+  on-seats s = occ-append s (occupant (m .running)) (away (m .runners))
 
   -- ---- the one seat of a slot
   rows-in : (s : ℕ) → who-is-in s (view m) ≡ map (row m) (those (λ x. eqb x s) (seats m))
-  rows-in s = ap (those (sits s)) (seats-living m) ∙ those-map (sits s) (row m) (seats m)
+  rows-in s = ap (those (sits s)) (seats-living m g) ∙ those-map (sits s) (row m) (seats m)
 
   -- a free slot, and a number that is no slot
   free-seat : (s : ℕ) → getD (m .ids) s 0 ≡ 0 → occ s (seats m) ≡ 0
@@ -102,16 +155,16 @@ module _ (m : Tables) (g : Shape m) where
 
   -- what is zero in free rows is what a look tells, for every number
   pub told : (f : Process → ℕ) (s : ℕ) → (getD (m .ids) s 0 ≡ 0 → f (row m s) ≡ 0) → of-slot f s (view m) ≡ f (row m s)
-  told f s blank = go (ℕ-discrete (getD (m .ids) s 0) 0) (leb base-slots s) refl
+  told f s none = go (ℕ-discrete (getD (m .ids) s 0) 0) (leb base-slots s) refl
     where
       go : Dec (getD (m .ids) s 0 ≡ 0) → (b : Bool) → leb base-slots s ≡ b → of-slot f s (view m) ≡ f (row m s)
-      go (yes e) b h = ap (λ (l : List Process). first l 0 f) (nobody-in s e) ∙ sym (blank e)
+      go (yes e) b h = ap (λ (l : List Process). first l 0 f) (nobody-in s e) ∙ sym (none e)
       go (no n) true h = absurd (n (beyond (m .ids) base-slots (g .ids-long) s (leb-true base-slots s h)))
       go (no n) false h = ap (λ (l : List Process). first l 0 f) (one-in s (leb-false base-slots s h) (omega arith))
 
   -- the zeros of free rows reach to every number
-  blank : (l : List ℕ) → length l ≡ base-slots → ((s : ℕ) → s < base-slots → getD (m .ids) s 0 ≡ 0 → getD l s 0 ≡ 0) → (s : ℕ) → getD (m .ids) s 0 ≡ 0 → getD l s 0 ≡ 0
-  blank l e z s h = go (leb base-slots s) refl
+  no-entry : (l : List ℕ) → length l ≡ base-slots → ((s : ℕ) → s < base-slots → getD (m .ids) s 0 ≡ 0 → getD l s 0 ≡ 0) → (s : ℕ) → getD (m .ids) s 0 ≡ 0 → getD l s 0 ≡ 0
+  no-entry l e z s h = go (leb base-slots s) refl
     where
       go : (b : Bool) → leb base-slots s ≡ b → getD l s 0 ≡ 0
       go true q = beyond l base-slots e s (leb-true base-slots s q)
@@ -121,16 +174,16 @@ module _ (m : Tables) (g : Shape m) where
   id-told s = told (λ p. p .id) s (λ e. e)
 
   pub customer-told : (s : ℕ) → of-slot (λ p. p .customer) s (view m) ≡ getD (m .customers) s 0
-  customer-told s = told (λ p. p .customer) s (blank (m .customers) (g .customers-long) (g .no-customer) s)
+  customer-told s = told (λ p. p .customer) s (no-entry (m .customers) (g .customers-long) (g .no-customer) s)
 
   pub priority-told : (s : ℕ) → of-slot (λ p. p .priority) s (view m) ≡ getD (m .priorities) s 0
-  priority-told s = told (λ p. p .priority) s (blank (m .priorities) (g .priorities-long) (g .no-priority) s)
+  priority-told s = told (λ p. p .priority) s (no-entry (m .priorities) (g .priorities-long) (g .no-priority) s)
 
   pub handle-told : (s : ℕ) → of-slot (λ p. p .handle) s (view m) ≡ getD (m .handles) s 0
-  handle-told s = told (λ p. p .handle) s (blank (m .handles) (g .handles-long) (g .no-handle) s)
+  handle-told s = told (λ p. p .handle) s (no-entry (m .handles) (g .handles-long) (g .no-handle) s)
 
   pub time-told : (s : ℕ) → of-slot (λ p. p .time) s (view m) ≡ getD (m .times) s 0
-  time-told s = told (λ p. p .time) s (blank (m .times) (g .times-long) (g .no-time) s)
+  time-told s = told (λ p. p .time) s (no-entry (m .times) (g .times-long) (g .no-time) s)
 
   -- nobody is in what is no slot
   pub no-slot : (f : Process → ℕ) (s : ℕ) → base-slots ≤ s → of-slot f s (view m) ≡ 0
@@ -146,7 +199,7 @@ module _ (m : Tables) (g : Shape m) where
     by-parts : Bool → Bool → List ℕ → Place
     by-parts r q w = if r then Running else (if q then Ready else first (map (waiter m) w) Nowhere (λ x. Waiting (x .line)))
 
-    parts : (r q : Bool) (w : List ℕ) → any (sits s) (view m .running) ≡ r → any (sits s) (view m .ready) ≡ q → those (λ x. eqb x s) (waiters m) ≡ w → place-at s (view m) ≡ by-parts r q w
+    parts : (r q : Bool) (w : List ℕ) → any (sits s) (on-processors (view m)) ≡ r → any (sits s) (view m .ready) ≡ q → those (λ x. eqb x s) (waiters m) ≡ w → place-at s (view m) ≡ by-parts r q w
     unfolding place-at by-parts
     parts r q w a b d =
         let e = waits-there m s (waiters m) ∙ ap (map (waiter m)) d in
@@ -157,7 +210,7 @@ module _ (m : Tables) (g : Shape m) where
     place-none e =
         let z = free-seat s e in
         parts false false []
-        (absent m s (occupant (m .running)) (omega (arith, occ-seats m s)))
+        (ap (any (sits s)) runners-rows ∙ absent m s (occupant (m .running) ++ away (m .runners)) (omega (arith, occ-seats m s, on-seats s)))
         (absent m s (readies m) (omega (arith, occ-seats m s)))
         (none-is s (waiters m) (omega (arith, occ-seats m s)))
 
@@ -165,11 +218,13 @@ module _ (m : Tables) (g : Shape m) where
     place-out h = place-none (beyond (m .ids) base-slots (g .ids-long) s h)
 
     module _ (k : s < base-slots) where
-      pub place-running : m .running ≡ s → place-at s (view m) ≡ Running
+      pub place-running : any (λ c. eqb c (suc s)) (m .runners) ≡ true → place-at s (view m) ≡ Running
       unfolding by-parts
       place-running e =
-          let o : occ s (occupant (m .running)) ≡ 1 = ap (λ r. occ s (occupant r)) e ∙ ap (occ s) (occupant-some s k) ∙ occ-self s in
-          parts true _ _ (stands m s (occupant (m .running)) o) refl refl
+          let a = held-by (m .runners) s e in
+          let h = g .homes s k in
+          let v = live-le (getD (m .ids) s 0) in
+          parts true _ _ (ap (any (sits s)) runners-rows ∙ stands m s (occupant (m .running) ++ away (m .runners)) (omega (arith, occ-seats m s, on-seats s))) refl refl
 
       pub place-waiting : (getD (m .lines) s 0 ≡ 0 → ⊥) → place-at s (view m) ≡ Waiting (decode (getD (m .lines) s 0))
       unfolding by-parts
@@ -179,20 +234,21 @@ module _ (m : Tables) (g : Shape m) where
           let u = pos-live (getD (m .lines) s 0) (omega arith) in
           let v = live-le (getD (m .ids) s 0) in
           parts false false (s ∷ [])
-          (absent m s (occupant (m .running)) (omega (arith, occ-seats m s)))
+          (ap (any (sits s)) runners-rows ∙ absent m s (occupant (m .running) ++ away (m .runners)) (omega (arith, occ-seats m s, on-seats s)))
           (absent m s (readies m) (omega (arith, occ-seats m s)))
           (one-is s (waiters m) (omega arith))
 
-      pub place-ready : (m .running ≡ s → ⊥) → getD (m .lines) s 0 ≡ 0 → (getD (m .ids) s 0 ≡ 0 → ⊥) → place-at s (view m) ≡ Ready
+      pub place-ready : m .running ≡ base-slots → any (λ c. eqb c (suc s)) (m .runners) ≡ false → getD (m .lines) s 0 ≡ 0 → (getD (m .ids) s 0 ≡ 0 → ⊥) → place-at s (view m) ≡ Ready
       unfolding by-parts
-      place-ready n z a =
+      place-ready r n z a =
           let h = g .homes s k in
           let w = g .coded s k in
           let u = ap live z in
           let v = pos-live (getD (m .ids) s 0) (omega arith) in
-          let o = not-running (m .running) s n in
+          let o = ap (λ x. occ s (occupant x)) r ∙ occ-nobody s in
+          let b = held-not (m .runners) s n in
           parts false true []
-          (absent m s (occupant (m .running)) o)
+          (ap (any (sits s)) runners-rows ∙ absent m s (occupant (m .running) ++ away (m .runners)) (omega (arith, on-seats s)))
           (stands m s (readies m) (omega (arith, occ-seats m s)))
           (none-is s (waiters m) (omega arith))
 
@@ -229,11 +285,25 @@ module _ (m : Tables) (g : Shape m) where
     place = place-at s (view m);
   }
 
+  -- nobody is here
+  pub at-rest : here (view m) ≡ blank → m .running ≡ base-slots
+  at-rest rest = go (ltb (m .running) base-slots) refl (ap (λ (x : book.Seat). length (x .running)) rest)
+    where
+      go : (b : Bool) → ltb (m .running) base-slots ≡ b → length (map (row m) (if b then m .running ∷ [] else [])) ≡ 0 → m .running ≡ base-slots
+      go true e h = absurd (omega (arith, h))
+      go false e h = omega (arith, ltb-false (m .running) base-slots e, g .runner)
+
+  -- ---- idle time of all processors
+  pub idle-all : here (view m) ≡ blank → idle-time (view m) ≡ tally (entry (m .idles)) most-processors
+  idle-all rest =
+      let none : m .idle ≡ 0 = ap (λ (x : book.Seat). x .idle) rest in
+      omega (arith, none, sum-table (λ (x : book.Seat). x .idle) (m .processors) (seat-at m), tally-stop (entry (m .idles)) (m .processors) most-processors (g .few-processors) (g .no-idle))
+
   -- ---- all of them
   pub all-alive : mask (living (view m)) ≡ m .taken
   unfolding mask mask-of-taken
   all-alive =
-      ap (sum (λ p. 2 ^ p .slot)) (seats-living m)
+      ap (sum (λ p. 2 ^ p .slot)) (seats-living m g)
       ∙ sum-over (λ p. 2 ^ p .slot) (row m) (seats m)
       ∙ sum-slots base-slots (λ s. 2 ^ s) (seats m) (seats-slots m g)
       ∙ tally-same (λ s. occ s (seats m) * 2 ^ s) (λ s. if is-zero (entry (m .ids) s) then 0 else 2 ^ s) base-slots (λ s k. ap (λ n. n * 2 ^ s) (g .homes s k) ∙ of-taken (getD (m .ids) s 0) (2 ^ s))
@@ -263,7 +333,7 @@ one-result x r s p q = p ∙ sym q
 
 -- ---- the whole example of document 01 after its sixth event: slot 1 has just commanded sub-device 32, and slot 0 runs
 six : book.Machine
-six = run (start base-slots 1000 (1 ∷ replicate 31 0) (base-slots ∷ replicate 8 0)) (call 1500 1 0 0 0 ∷ call 1600 3 0 0 0 ∷ call 1700 3 0 0 0 ∷ call 1800 6 0 0 0 ∷ call 1900 4 0 0 0 ∷ call 2000 5 32 7 0 ∷ [])
+six = run (start base-slots 1 1000 (1 ∷ replicate 31 0) (base-slots ∷ replicate 8 0)) (all-at 0 (call 1500 1 0 0 0 ∷ call 1600 3 0 0 0 ∷ call 1700 3 0 0 0 ∷ call 1800 6 0 0 0 ∷ call 1900 4 0 0 0 ∷ call 2000 5 32 7 0 ∷ []))
 
 places-seen : map (λ s. place-at s six) (0 ∷ 1 ∷ 2 ∷ base-slots ∷ []) ≡ Running ∷ Waiting (Device 32) ∷ Nowhere ∷ Nowhere ∷ []
 unfolding rule-book six place-at

@@ -3,14 +3,14 @@ use mathlib.Core.Bool.{Bool}
 use mathlib.Core.List.{List, _++_, map}
 use Prim.Native.Nat.{ℕ, _-_}
 use lib.Dec.{eqb}
-use lib.ListN.{length, replicate}
+use lib.ListN.{length, getD, replicate}
 use Rattle.rules.specs.declared.Part.{Part}
 use Rattle.rules.specs.declared.Part.the-variants.{Absent, Number}
 use Rattle.rules.specs.Words.{if_then_else_, first, those, any}
 use Rattle.rules.specs.Numbers.{base-slots}
-use Rattle.rules.specs.Tables.{slots-of}
+use Rattle.rules.specs.Tables.{slots-of, idle-time}
 use Rattle.rules.specs.Machine as book
-use Rattle.rules.specs.Machine.{Process, living}
+use Rattle.rules.specs.Machine.{Process, on-processors, living, blank}
 use Rattle.looks.specs.declared.Place.{Place}
 use Rattle.looks.specs.declared.Place.the-variants.{Nowhere, Running, Ready, Waiting}
 use Rattle.looks.specs.declared.Status.{Status}
@@ -21,9 +21,13 @@ use Rattle.looks.specs.declared.Order.{Order}
 
 -- ── Who ──
 
--- the slot of whoever runs, or absent
-abbrev pub who-runs : book.Machine → Part
-who-runs m = first (m .running) Absent λ p. Number (p .slot)
+-- a processor's seat, blank where there is no such processor
+abbrev pub seat-of : ℕ → book.Machine → book.Seat
+seat-of k m = getD (m .elsewhere) k blank
+
+-- the slot of whoever runs on a processor, or absent
+abbrev pub who-runs : ℕ → book.Machine → Part
+who-runs k m = first (seat-of k m .running) Absent λ p. Number (p .slot)
 
 -- the process is in the slot
 abbrev pub sits : ℕ → Process → Bool
@@ -43,10 +47,10 @@ parent-of p = first (p .ancestors) 0 λ n. n
 
 -- ── Where ──
 
--- running, in the ready line, in the waiting line that it came to, or nowhere
+-- running on some processor, in the ready line, in the waiting line that it came to, or nowhere
 unfoldable pub place-at : ℕ → book.Machine → Place
 place-at s m =
-    if any (sits s) (m .running) then Running
+    if any (sits s) (on-processors m) then Running
     else (if any (sits s) (m .ready) then Ready
     else first (those (λ w. sits s (w .process)) (m .waiting)) Nowhere (λ w. Waiting (w .line)))
 
@@ -75,9 +79,9 @@ waiting-in-order m = in-order (map (λ w. w .process .slot) (m .waiting))
 
 -- ── The machine ──
 
--- the sum of the accepted gaps, idle time and ended time
+-- the sum of the accepted gaps, idle time of all processors and ended time
 abbrev pub sums : book.Machine → Totals
-sums m = record { gaps = m .total; idle = m .idle; ended = m .ended }
+sums m = record { gaps = m .total; idle = idle-time m; ended = m .ended }
 
 -- whether it runs on, "has halted or panicked"
 abbrev pub standing : book.Status → Status

@@ -3,18 +3,23 @@
 // customers are bytes, as in answers. Whether somebody is in a slot is told by the id (0 is nobody's) and by the place;
 // the other numbers are 0 where nobody is there.
 ghost use mathlib.Core.Path.{_≡_};
+ghost use lib.Dec.{eqb};
+ghost use lib.ListN.{length};
+ghost use Rattle.rules.specs.Words.{any};
+ghost use Rattle.lines.specs.Lines.{entry, tally};
 ghost use Prim.Native.Nat.{_<_, _≤_};
-ghost use Rattle.rules.specs.Numbers.{base-slots};
+ghost use Rattle.rules.specs.Numbers.{base-slots, most-processors, time-limit};
 ghost use Rattle.rules.specs.Rules.{value};
 ghost use Rattle.rules.specs.Answers.{mask};
 ghost use Rattle.rules.specs.Machine.{living, living-of, ceiling};
 ghost use Rattle.tables.specs.Codes.{decode};
-ghost use Rattle.tables.specs.View.{view, Shape, Good};
-ghost use Rattle.looks.specs.Looks.{who-runs, place-at, row-at, readies-in-order, waiting-in-order, sums, standing};
+ghost use Rattle.tables.specs.View.{view, Good};
+ghost use Rattle.looks.specs.Looks.{seat-of, who-runs, place-at, row-at, readies-in-order, waiting-in-order, sums, standing};
 use kin::parent_of;
 use lines::living_of;
 use rules::CUSTOMERS;
 use rules::Line;
+use rules::PROCESSORS;
 use rules::Part;
 use rules::SEMAPHORES;
 use rules::SLOTS;
@@ -23,7 +28,7 @@ use tables::FIRST_DEVICE;
 use tables::LAST_SEMAPHORE;
 use tables::Tables;
 
-// Where a process is: "nobody there", running, in the ready line, or in a waiting line.
+// Where a process is: "nobody there", running on some processor, in the ready line, or in a waiting line.
 pub enum Place {
     Nowhere,
     Running,
@@ -79,17 +84,73 @@ fn line_of(code: u8) -> Line
     Line::PseudoClock
 }
 
-// The slot of whoever runs, or absent.
-pub fn running(t: Tables) -> Part
+// The slot of whoever runs on a processor, or absent.
+pub fn running(t: Tables, processor: u8) -> Part
     requires { ⌜ Good t ⌝ }
-    ensures { λ r. ⌜ r ≡ who-runs (view t) ⌝ }
+    ensures { λ r. ⌜ r ≡ who-runs processor (view t) ⌝ }
 {
-    let at = t.running;
-    if SLOTS <= at {
+    let k = processor as usize;
+    if PROCESSORS <= k {
         return Part::Absent;
     }
-    let slot = at as u8;
-    Part::Number(slot)
+    let code = t.runners[k];
+    if code == 0 {
+        return Part::Absent;
+    }
+    Part::Number(code - 1)
+}
+
+// A processor's last clock reading; 0 where there is no such processor.
+pub fn last(t: Tables, processor: u8) -> u32
+    requires { ⌜ Good t ⌝ }
+    ensures { λ r. ⌜ r ≡ seat-of processor (view t) .last ⌝ }
+{
+    let k = processor as usize;
+    if PROCESSORS <= k {
+        return 0;
+    }
+    t.lasts[k]
+}
+
+// A processor's idle time; 0 where there is no such processor.
+pub fn idle(t: Tables, processor: u8) -> u64
+    requires { ⌜ Good t ⌝ }
+    ensures { λ r. ⌜ r ≡ seat-of processor (view t) .idle ⌝ }
+{
+    let k = processor as usize;
+    if PROCESSORS <= k {
+        return 0;
+    }
+    t.idles[k]
+}
+
+// Whoever has this code runs on some processor.
+fn runs_on(runners: &[u8; PROCESSORS], code: u8) -> bool
+    requires { ⌜ length (now runners) ≡ most-processors ⌝ }
+    ensures { λ r. ⌜ r ≡ any (λ c. eqb c code) (now (runners .entry)) ⌝ }
+{
+    let mut k = 0;
+    while k < PROCESSORS {
+        if runners[k] == code {
+            return true;
+        }
+        k += 1;
+    }
+    false
+}
+
+// Idle time of all processors.
+fn idle_of(idles: &[u64; PROCESSORS]) -> u64
+    requires { ⌜ (length (now idles) ≡ most-processors) × (tally (entry (now idles)) most-processors ≤ time-limit) ⌝ }
+    ensures { λ r. ⌜ r ≡ tally (entry (now (idles .entry))) most-processors ⌝ }
+{
+    let mut sum: u64 = 0;
+    let mut k = 0;
+    while k < PROCESSORS {
+        sum += idles[k];
+        k += 1;
+    }
+    sum
 }
 
 // The mask of the living, "bit n for slot n".
@@ -102,10 +163,10 @@ pub fn alive(t: Tables) -> u64
 
 // Where the process in a slot is: each of the living is in one place.
 fn place_of(t: Tables, slot: usize) -> Place
-    requires { ⌜ Shape t × (slot < base-slots) ⌝ }
+    requires { ⌜ Good t × (slot < base-slots) ⌝ }
     ensures { λ r. ⌜ r ≡ place-at slot (view t) ⌝ }
 {
-    if t.running == slot {
+    if runs_on(&t.runners, slot as u8 + 1) {
         return Place::Running;
     }
     let code = t.lines[slot];
@@ -215,9 +276,10 @@ pub fn totals_of(t: Tables) -> Totals
     requires { ⌜ Good t ⌝ }
     ensures { λ r. ⌜ r ≡ sums (view t) ⌝ }
 {
+    let idle = idle_of(&t.idles);
     Totals {
         gaps: t.total,
-        idle: t.idle,
+        idle: idle,
         ended: t.ended,
     }
 }

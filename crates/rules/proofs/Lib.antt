@@ -2,6 +2,7 @@
 -- Worked examples, by computing:
 pub mod Examples
 pub mod Edges
+pub mod Several
 -- That every event keeps the tables' rule, and what it is proved by:
 pub mod Tables
 pub mod Cases
@@ -15,3 +16,7 @@ pub mod Kin
 pub mod Places
 pub mod Laws
 pub mod Status
+-- Several processors: a seat is taken and taken back; an event at any processor; the mask of processors:
+pub mod Turns
+pub mod Arrivals
+pub mod Named

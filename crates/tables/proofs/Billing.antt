@@ -9,7 +9,7 @@ use borrow.Author.Needs.{needs}
 use lib.ListN.{length, getD, set, length-set}
 use lib.Seq.{getD-set-same, getD-set-other}
 use Rattle.rules.specs.Words.{first}
-use Rattle.rules.specs.Numbers.{base-slots, time-limit}
+use Rattle.rules.specs.Numbers.{base-slots, most-processors, time-limit}
 use Rattle.rules.specs.Machine as book
 use Rattle.rules.specs.Machine.{Process, Waiter, longer, gap, charge}
 use Rattle.lines.specs.Lines.{occ, one, entry, tally}
@@ -17,8 +17,9 @@ use Rattle.lines.proofs.Occ.{one-same, one-other, tally-add, tally-same, tally-
 use Rattle.lines.proofs.Bridge.{map-apart}
 use Rattle.tables.specs.declared.Tables.{Tables}
 use Rattle.tables.specs.Codes.{status-of}
-use Rattle.tables.specs.View.{row, waiter, occupant, readies, waiters, view, Shape}
+use Rattle.tables.specs.View.{row, waiter, occupant, away, readies, waiters, view, Shape}
 use Rattle.tables.specs.Contracts.{Step}
+use Rattle.tables.proofs.Away.{seats-alike}
 use Rattle.tables.proofs.Seats.{Seat, occ-self, occ-seats, occupant-some, runner-seat, runs-one, runs-none}
 
 -- ---- sums by slot
@@ -39,6 +40,19 @@ tally-has ts r n h = omega (arith, tally-at (entry ts) r n h, tally-le (λ s. on
     go s (yes e) = rw (e, one-same r) (omega arith)
     go s (no k) = rw (one-other r s (λ q. k (sym q))) (omega arith)
 
+-- one entry set: what it had comes off, what it has is added
+pub tally-swap : (ts : List ℕ) (k v n : ℕ) → k < length ts → k < n → tally (entry (set ts k v)) n + entry ts k ≡ tally (entry ts) n + v
+tally-swap ts k v n long h =
+    ap (λ x. tally (entry (set ts k v)) n + x) (sym (tally-at (λ s. entry ts k) k n h))
+    ∙ sym (tally-add (entry (set ts k v)) (λ s. one k s * entry ts k) n)
+    ∙ tally-same (λ s. entry (set ts k v) s + one k s * entry ts k) (λ s. entry ts s + one k s * v) n (λ s b. go s (ℕ-discrete s k))
+    ∙ tally-add (entry ts) (λ s. one k s * v) n
+    ∙ ap (λ x. tally (entry ts) n + x) (tally-at (λ s. v) k n h)
+  where
+    go : (s : ℕ) → Dec (s ≡ k) → entry (set ts k v) s + one k s * entry ts k ≡ entry ts s + one k s * v
+    go s (yes e) = rw (e, getD-set-same ts k v 0 long, one-same k) (omega arith)
+    go s (no n) = rw (getD-set-other ts k s v 0 n, one-other k s (λ q. n (sym q))) (omega arith)
+
 -- nobody's time is above all time
 pub time-within : (m : Tables) → Shape m → (s : ℕ) → s < base-slots → entry (m .times) s ≤ m .total
 time-within m g s h = omega (arith, g .spent, tally-has (m .times) s base-slots h)
@@ -49,23 +63,23 @@ unfolding gap
 gap-is m r now a b c h = omega arith
 
 abbrev pub charged : Tables → ℕ → List ℕ → ℕ → Tables
-charged m now ts i = record { ids = m .ids; taken = m .taken; parents = m .parents; customers = m .customers; priorities = m .priorities; handles = m .handles; times = ts; lines = m .lines; ready = m .ready; nready = m .nready; waits = m .waits; nwaits = m .nwaits; running = m .running; sems = m .sems; ceilings = m .ceilings; next = m .next; status = m .status; last = now; total = m .total + gap now (view m); idle = i; ended = m .ended }
+charged m now ts i = record { ids = m .ids; taken = m .taken; parents = m .parents; customers = m .customers; priorities = m .priorities; handles = m .handles; times = ts; lines = m .lines; ready = m .ready; nready = m .nready; waits = m .waits; nwaits = m .nwaits; running = m .running; sems = m .sems; ceilings = m .ceilings; next = m .next; status = m .status; last = now; total = m .total + gap now (view m); idle = i; ended = m .ended; runners = m .runners; lasts = m .lasts; idles = m .idles; processors = m .processors }
 
 module _ (m : Tables) (g : Shape m) (now : ℕ) (fits : m .total + gap now (view m) ≤ time-limit) where
   abbrev k : ℕ
   k = gap now (view m)
 
   -- a machine of the rule book that is charged
-  abbrev with-charge : List Process → List Process → List Waiter → ℕ → book.Machine
-  with-charge r q w i = record { slots = base-slots; running = r; ready = q; waiting = w; sems = m .sems; ceilings = m .ceilings; next = m .next; status = status-of (m .status); last = now; total = m .total + k; idle = i; ended = m .ended }
+  abbrev with-charge : List Process → List Process → List Waiter → ℕ → List book.Seat → book.Machine
+  with-charge r q w i ss = record { slots = base-slots; running = r; ready = q; waiting = w; sems = m .sems; ceilings = m .ceilings; next = m .next; status = status-of (m .status); last = now; total = m .total + k; idle = i; ended = m .ended; elsewhere = ss }
 
   pub charge-idle : base-slots ≤ m .running → Step (charge now) m (charged m now (m .times) (m .idle + k))
   unfolding charge
   charge-idle h =
       let none : view m .running ≡ [] = runs-none m g h in
-      let sum : m .idle + k + m .ended + tally (entry (m .times)) base-slots ≡ m .total + k = omega (arith, g .spent) in
+      let sum : m .idle + k + tally (entry (m .idles)) most-processors + m .ended + tally (entry (m .times)) base-slots ≡ m .total + k = omega (arith, g .spent) in
       record {
-        seen = ap₂ (λ r i. with-charge r (view m .ready) (view m .waiting) i) (none ∙ sym (ap (map (longer k)) none)) (sym (ap (λ (l : List Process). m .idle + first l k (λ p. 0)) none));
+        seen = ap₂ (λ r i. with-charge r (view m .ready) (view m .waiting) i (view m .elsewhere)) (none ∙ sym (ap (map (longer k)) none)) (sym (ap (λ (l : List Process). m .idle + first l k (λ p. 0)) none));
         shape = search needs;
       }
 
@@ -94,11 +108,11 @@ module _ (m : Tables) (g : Shape m) (now : ℕ) (fits : m .total + gap now (view
     other : (x : ℕ) → (x ≡ r → ⊥) → getD ts x 0 ≡ getD (m .times) x 0
     other x n = getD-set-other (m .times) r x (getD (m .times) r 0 + k) 0 n
 
-    elsewhere : (occ r (readies m) ≡ 0) × (occ r (waiters m) ≡ 0)
-    elsewhere =
+    not-there : (occ r (readies m) ≡ 0) × (occ r (waiters m) ≡ 0) × (occ r (away (m .runners)) ≡ 0)
+    not-there =
         let o = occ-seats m r in
         let s : occ r (occupant r) ≡ 1 = ap (occ r) (occupant-some r h) ∙ occ-self r in
-        (omega (arith, p .once, o, s), omega (arith, p .once, o, s))
+        (omega (arith, p .once, o, s), omega (arith, p .once, o, s), omega (arith, p .once, o, s))
 
     longer-row : map (row c) (occupant r) ≡ map (longer k) (view m .running)
     unfolding timed
@@ -110,14 +124,16 @@ module _ (m : Tables) (g : Shape m) (now : ℕ) (fits : m .total + gap now (view
     pub charge-busy : Step (charge now) m c
     unfolding charge timed waits-timed
     charge-busy =
-        let ready : map (row c) (readies m) ≡ view m .ready = map-apart r (row c) (row m) (λ x n. ap (λ v. timed v (row m x)) (other x n)) (readies m) (elsewhere .0) in
-        let waits : map (waiter c) (waiters m) ≡ view m .waiting = map-apart r (waiter c) (waiter m) (λ x n. ap (λ v. waits-timed v (waiter m x)) (other x n)) (waiters m) (elsewhere .1) in
+        let ready : map (row c) (readies m) ≡ view m .ready = map-apart r (row c) (row m) (λ x n. ap (λ v. timed v (row m x)) (other x n)) (readies m) (not-there .0) in
+        let waits : map (waiter c) (waiters m) ≡ view m .waiting = map-apart r (waiter c) (waiter m) (λ x n. ap (λ v. waits-timed v (waiter m x)) (other x n)) (waiters m) (not-there .1) in
+        let seats : view c .elsewhere ≡ view m .elsewhere =
+        seats-alike (row c) (row m) (m .runners) (λ x o. ap (λ v. timed v (row m x)) (other x (λ q. let y : ⊥ = omega (arith, o, ap (λ v. occ v (away (m .runners))) q, not-there .2) in y))) (m .processors) (λ k. getD (m .lasts) k 0) (λ k. getD (m .idles) k 0) in
         let long : length ts ≡ base-slots = simp length-set (g .times-long) in
         let free : (x : ℕ) → x < base-slots → getD (m .ids) x 0 ≡ 0 → getD ts x 0 ≡ 0 =
         λ x b z. other x (λ q. let y : ⊥ = omega (arith, p .alive, z, ap (λ v. getD (m .ids) v 0) q) in y) ∙ g .no-time x b z in
-        let sum : m .idle + m .ended + tally (entry ts) base-slots ≡ m .total + k = omega (arith, g .spent, tally-longer (m .times) r k base-slots (omega (arith, g .times-long)) h) in
+        let sum : m .idle + tally (entry (m .idles)) most-processors + m .ended + tally (entry ts) base-slots ≡ m .total + k = omega (arith, g .spent, tally-longer (m .times) r k base-slots (omega (arith, g .times-long)) h) in
         let idle : m .idle ≡ m .idle + first (view m .running) k (λ p. 0) = omega (arith, ap (λ (l : List Process). first l k (λ p. 0)) (runs-one m g h)) in
         record {
-          seen = (λ i. with-charge (longer-row i) (ready i) (waits i) (idle i));
+          seen = (λ i. with-charge (longer-row i) (ready i) (waits i) (idle i) (seats i));
           shape = search needs;
         }

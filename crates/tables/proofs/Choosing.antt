@@ -1,31 +1,34 @@
 -- Who runs next, over machines alone: the first in the ready line; halt, wait or panic; or whoever runs carries on.
 -- Assumes nothing.
 use mathlib.Core.Path.{_≡_, refl, sym, ap, _∙_}
-use mathlib.Core.List.{List, [], _∷_, map}
+use mathlib.Core.Bool.{Bool, true, false, true≢false}
+use mathlib.Core.List.{List, [], _∷_, _++_, map}
 use Prim.Native.Nat.{ℕ, _<_, _≤_}
 use native.Mathlib.Omega.{arith}
 use borrow.Author.Needs.{needs}
-use lib.ListN.{length, take}
+use lib.ListN.{length, take, getD}
 use Rattle.rules.specs.declared.Answer.{Answer}
 use Rattle.rules.specs.declared.Action.the-variants.{CarryOn, Run, Wait, Halt, Panic}
 use Rattle.rules.specs.Words.{first}
 use Rattle.rules.specs.Numbers.{base-slots}
 use Rattle.rules.specs.Machine as book
-use Rattle.rules.specs.Machine.{Process, living, dispatch}
+use Rattle.rules.specs.Machine.{Process, Waiter, seated-in, living, dispatch}
 use Rattle.rules.specs.Answers.{Outcome, doing}
-use Rattle.rules.specs.Rules.{act, schedule, nobody-ready, carry-on, resume}
+use Rattle.rules.specs.Rules.{act, runs-elsewhere, worth-waiting, schedule, nobody-ready, carry-on, resume}
 use Rattle.lines.specs.Lines.{first-where}
 use Rattle.lines.specs.declared.Found.the-variants.{At, Nothing}
 use Rattle.lines.proofs.Bridge.{found-first, found-none, any-those, any-none}
 use Rattle.tables.specs.declared.Tables.{Tables}
 use Rattle.tables.specs.declared.Settled.{Settled}
-use Rattle.tables.specs.View.{row, waiters, seats, view, Shape}
+use Rattle.seats.specs.Seats.{runsSomewhere}
+use Rattle.seats.proofs.Told.{runs-told}
+use Rattle.tables.specs.View.{row, waiter, occupant, waiters, seats, view, Shape}
 use Rattle.tables.specs.Contracts.{Step, Comes}
 use Rattle.tables.proofs.Seats.{seats-living, sizes, runs-one, runs-none, at-nucleus, nucleus-any}
 use Rattle.tables.proofs.Moves.{dispatched, dispatch-step, ready-first}
 
 abbrev pub put-status : ℕ → Tables → Tables
-put-status v m = record { ids = m .ids; taken = m .taken; parents = m .parents; customers = m .customers; priorities = m .priorities; handles = m .handles; times = m .times; lines = m .lines; ready = m .ready; nready = m .nready; waits = m .waits; nwaits = m .nwaits; running = m .running; sems = m .sems; ceilings = m .ceilings; next = m .next; status = v; last = m .last; total = m .total; idle = m .idle; ended = m .ended }
+put-status v m = record { ids = m .ids; taken = m .taken; parents = m .parents; customers = m .customers; priorities = m .priorities; handles = m .handles; times = m .times; lines = m .lines; ready = m .ready; nready = m .nready; waits = m .waits; nwaits = m .nwaits; running = m .running; sems = m .sems; ceilings = m .ceilings; next = m .next; status = v; last = m .last; total = m .total; idle = m .idle; ended = m .ended; runners = m .runners; lasts = m .lasts; idles = m .idles; processors = m .processors }
 
 -- the first of a list that is known
 pub first-known {ℓ κ} : {A : Type ℓ} {B : Type κ} (xs : List A) (y : A) (ys : List A) (none : B) (some : A → B) → xs ≡ y ∷ ys → first xs none some ≡ some y
@@ -39,29 +42,57 @@ pub comes-by : (o k : Outcome) (r : Settled) → o ≡ k → Comes k r → Comes
 comes-by o k r e h = record { seen = e ∙ h .seen; shape = h .shape }
 
 -- ---- nobody ready
-pub halt-comes : (x : Answer) (m : Tables) → Shape m → m .running ≡ base-slots → m .nready ≡ 0 → m .nwaits ≡ 0 → Comes (nobody-ready x (view m)) (record { tables = put-status 1 m; answer = doing Halt x })
-unfolding nobody-ready living
-halt-comes x m g r n w = record { seen = rw (r, n, w); shape = search needs }
+-- somebody runs on another processor
+some-first {ℓ} : {B : Type ℓ} (xs ys : List Process) (a b : B) → first xs false (λ p. true) ≡ true → first (xs ++ ys) a (λ p. b) ≡ b
+some-first [] ys a b e = absurd (true≢false (sym e))
+some-first (x ∷ xs) ys a b e = refl
 
-module _ (x : Answer) (m : Tables) (g : Shape m) (some : 0 < m .nwaits) where
+none-first : (xs : List Process) → first xs false (λ p. true) ≡ false → xs ≡ []
+none-first [] e = refl
+none-first (x ∷ xs) e = absurd (true≢false e)
+
+elsewhere-told : (m : Tables) → Shape m → runs-elsewhere (view m) ≡ runsSomewhere (m .runners)
+unfolding runs-elsewhere
+elsewhere-told m g = sym (runs-told (row m) (m .runners) (m .processors) (λ k. getD (m .lasts) k 0) (λ k. getD (m .idles) k 0) (g .no-runner))
+
+first-there : (m : Tables) → m .running ≡ base-slots → runs-elsewhere (view m) ≡ true → {B : Type 0} (a b : B) → first (living (view m)) a (λ p. b) ≡ b
+unfolding living runs-elsewhere
+first-there m r e a b =
+    ap (λ (n : ℕ). first (map (row m) (occupant n) ++ (seated-in (view m .elsewhere) ++ (view m .ready ++ map (λ (w : Waiter). w .process) (view m .waiting)))) a (λ p. b)) r
+    ∙ some-first (seated-in (view m .elsewhere)) _ a b e
+
+pub beside-comes : (x : Answer) (m : Tables) → Shape m → m .running ≡ base-slots → runsSomewhere (m .runners) ≡ true → Comes (nobody-ready x (view m)) (record { tables = m; answer = doing Wait x })
+unfolding nobody-ready worth-waiting
+beside-comes x m g r e =
+    let there : runs-elsewhere (view m) ≡ true = elsewhere-told m g ∙ e in
+    record { seen = first-there m r there _ _ ∙ rw there; shape = g }
+
+pub halt-comes : (x : Answer) (m : Tables) → Shape m → m .running ≡ base-slots → m .nready ≡ 0 → runsSomewhere (m .runners) ≡ false → m .nwaits ≡ 0 → Comes (nobody-ready x (view m)) (record { tables = put-status 1 m; answer = doing Halt x })
+unfolding nobody-ready living runs-elsewhere
+halt-comes x m g r n e w =
+    let nobody : seated-in (view m .elsewhere) ≡ [] = none-first (seated-in (view m .elsewhere)) (elsewhere-told m g ∙ e) in
+    let none : living (view m) ≡ [] = λ i. map (row m) (occupant (r i)) ++ (nobody i ++ (map (row m) (take (n i) (m .ready)) ++ map (λ (w : Waiter). w .process) (map (waiter m) (take (w i) (m .waits))))) in
+    record { seen = first-empty (living (view m)) _ _ none; shape = search needs }
+
+module _ (x : Answer) (m : Tables) (g : Shape m) (alone : runsSomewhere (m .runners) ≡ false) (some : 0 < m .nwaits) where
   some-living : {B : Type 0} (a b : B) → first (living (view m)) a (λ p. b) ≡ b
-  some-living a b = ap (λ (l : List Process). first l a (λ p. b)) (seats-living m) ∙ go (seats m) (omega (arith, sizes m g))
+  some-living a b = ap (λ (l : List Process). first l a (λ p. b)) (seats-living m g) ∙ go (seats m) (omega (arith, sizes m g))
     where
       go : (l : List ℕ) → 0 < length l → first (map (row m) l) a (λ p. b) ≡ b
       go [] k = absurd (omega arith)
       go (y ∷ l) k = refl
 
   pub wait-comes : (i : ℕ) → first-where (at-nucleus m) 0 (waiters m) ≡ At i → Comes (nobody-ready x (view m)) (record { tables = m; answer = doing Wait x })
-  unfolding nobody-ready
+  unfolding nobody-ready worth-waiting
   wait-comes i e = record {
-    seen = some-living _ _ ∙ rw (nucleus-any m g, any-those (at-nucleus m) (waiters m) _ _ (found-first (at-nucleus m) (waiters m) i e));
+    seen = some-living _ _ ∙ rw (elsewhere-told m g, alone, nucleus-any m g, any-those (at-nucleus m) (waiters m) _ _ (found-first (at-nucleus m) (waiters m) i e));
     shape = g;
   }
 
   pub panic-comes : first-where (at-nucleus m) 0 (waiters m) ≡ Nothing → Comes (nobody-ready x (view m)) (record { tables = put-status 2 m; answer = doing Panic x })
-  unfolding nobody-ready
+  unfolding nobody-ready worth-waiting
   panic-comes e = record {
-    seen = some-living _ _ ∙ rw (nucleus-any m g, any-none (at-nucleus m) (waiters m) (found-none (at-nucleus m) (waiters m) 0 e));
+    seen = some-living _ _ ∙ rw (elsewhere-told m g, alone, nucleus-any m g, any-none (at-nucleus m) (waiters m) (found-none (at-nucleus m) (waiters m) 0 e));
     shape = search needs;
   }
 

@@ -1,4 +1,4 @@
--- A kill, over machines alone: the family's rows are struck, and both lines and whoever runs lose who is of it.
+-- A kill, over machines alone: the family's rows are struck, and both lines and the processors lose who is of it.
 -- Assumes nothing.
 use mathlib.Core.Path.{_≡_, refl, sym, ap, ap₂, _∙_}
 use mathlib.Core.Bool.{Bool, true, false, not, true≢false}
@@ -10,11 +10,11 @@ use lib.ListN.{length, getD}
 use borrow.Author.Tests.{ne-eqb, leb-true, leb-false, lt-leb, lt-ltb, le-ltb}
 use Rattle.rules.specs.Words.{if_then_else_, those, among, sum, All}
 use Rattle.rules.proofs.Cases.{All-left, All-right}
-use Rattle.rules.specs.Numbers.{base-slots, time-limit}
+use Rattle.rules.specs.Numbers.{base-slots, most-processors, time-limit}
 use Rattle.rules.proofs.Sums.{sum-over}
 use Rattle.rules.proofs.Lines.{those-append}
-use Rattle.rules.specs.Machine.{Process, Waiter, family, family-of, kill}
-use Rattle.rules.specs.Answers.{mask}
+use Rattle.rules.specs.Machine.{Process, Waiter, family, family-of, rid-of, kill}
+use Rattle.rules.specs.Answers.{mask, left-idle}
 use Rattle.lines.specs.Lines.{entry, marked, alive, kept, struck, spared-of, occ, tally, mask-of-taken}
 use Rattle.lines.proofs.Occ.{occ-keep, sum-marked, tally-add, tally-same}
 use Rattle.lines.proofs.Marks.{getD-struck, length-struck, struck-cases}
@@ -23,7 +23,11 @@ use Rattle.lines.proofs.Laws.{kept-view, kept-line}
 use Rattle.lines.proofs.Bridge.{those-map, those-same, map-same, passing}
 use Rattle.tables.specs.declared.Tables.{Tables}
 use Rattle.tables.specs.Codes.{decode, last-code, status-of}
-use Rattle.tables.specs.View.{row, waiter, occupant, readies, waiters, seats, view, live, Shape}
+use Rattle.tables.specs.View.{row, waiter, occupant, away, seat-at, readies, waiters, seats, view, live, Shape}
+use Rattle.seats.specs.Seats.{leavingOf}
+use Rattle.seats.proofs.Tabled.{table-same, table-map}
+use Rattle.seats.proofs.Told.{mask-told, rid-told}
+use Rattle.tables.proofs.Away.{away-struck}
 use Rattle.kin.specs.Families.{climb, elders, Parent, Kin, kin, Marks}
 use Rattle.tables.specs.Contracts.{Kills}
 use Rattle.tables.proofs.Seats.{Seat, seats-living, seats-slots, seated, living-seat}
@@ -32,6 +36,10 @@ use Rattle.kin.proofs.Climbs.{spared-at, climb-struck, kin-child}
 -- the sum of what the doomed have
 abbrev pub of-doomed : List Bool → (ℕ → ℕ) → ℕ
 of-doomed ds f = tally (λ s. if marked ds s then f s else 0) base-slots
+
+-- the mask of the processors that the doomed leave
+abbrev pub of-left : List Bool → List ℕ → ℕ
+of-left ds cs = tally (λ k. if marked (leavingOf ds cs) k then 2 ^ k else 0) most-processors
 
 abbrev pub killed : Tables → List Bool → Tables
 killed m ds = record {
@@ -56,6 +64,10 @@ killed m ds = record {
   total = m .total;
   idle = m .idle;
   ended = m .ended + of-doomed ds (entry (m .times));
+  runners = struck (leavingOf ds (m .runners)) (m .runners);
+  lasts = m .lasts;
+  idles = m .idles;
+  processors = m .processors;
 }
 
 not-true-is : (b : Bool) → not b ≡ true → b ≡ false
@@ -89,12 +101,14 @@ module _ (m : Tables) (g : Shape m) (n : ℕ) (ds : List Bool) (w : Marks (m .pa
   dead-entry : (l : List ℕ) (s : ℕ) → marked ds s ≡ true → getD (struck ds l) s 0 ≡ 0
   dead-entry l s e = getD-struck ds l s ∙ rw e
 
-  spared-row : (x : ℕ) → Seat m x × (alive ds x ≡ true) → row r x ≡ row m x
-  spared-row x p =
-      let e : marked ds x ≡ false = not-true-is (marked ds x) (p .1) in
+  row-stays : (x : ℕ) → x < base-slots → marked ds x ≡ false → row r x ≡ row m x
+  row-stays x b e =
       let anc : elders (r .parents) (r .ids) x ≡ elders (m .parents) (m .ids) x =
-      climb-struck (m .parents) (m .ids) (g .parent) ds n w (getD (r .ids) x 0) x (p .0 .slot) e ∙ ap (λ k. climb (m .parents) (m .ids) k x) (spared-at ds (m .ids) x e) in
+      climb-struck (m .parents) (m .ids) (g .parent) ds n w (getD (r .ids) x 0) x b e ∙ ap (λ k. climb (m .parents) (m .ids) k x) (spared-at ds (m .ids) x e) in
       rw (anc, spared-at ds (m .ids) x e, spared-at ds (m .customers) x e, spared-at ds (m .priorities) x e, spared-at ds (m .handles) x e, spared-at ds (m .times) x e)
+
+  spared-row : (x : ℕ) → Seat m x × (alive ds x ≡ true) → row r x ≡ row m x
+  spared-row x p = row-stays x (p .0 .slot) (not-true-is (marked ds x) (p .1))
 
   spared-waiter : (x : ℕ) → Seat m x × (alive ds x ≡ true) → waiter r x ≡ waiter m x
   spared-waiter x p =
@@ -104,9 +118,12 @@ module _ (m : Tables) (g : Shape m) (n : ℕ) (ds : List Bool) (w : Marks (m .pa
       at-code c q = record { process = q; line = decode c }
 
   -- who is of the family, by the marks
-  marked-family : (x : ℕ) → Seat m x → family n (row m x) ≡ marked ds x
+  family-marked : (x : ℕ) → x < base-slots → marked ds x ≡ family n (row m x)
   unfolding family
-  marked-family x p = sym (w .each x (p .slot))
+  family-marked x b = w .each x b
+
+  marked-family : (x : ℕ) → Seat m x → family n (row m x) ≡ marked ds x
+  marked-family x p = sym (family-marked x (p .slot))
 
   -- the rows of those who are spared are the rows that are not of the family
   spared-rows {κ} : {B : Type κ} (f h : ℕ → B) (t : B → Bool) → ((x : ℕ) → Seat m x → t (h x) ≡ alive ds x) → ((x : ℕ) → Seat m x × (alive ds x ≡ true) → f x ≡ h x)
@@ -125,11 +142,23 @@ module _ (m : Tables) (g : Shape m) (n : ℕ) (ds : List Bool) (w : Marks (m .pa
   seats-killed : seats r ≡ those (alive ds) (seats m)
   seats-killed =
       ap₂ (λ (a b : List ℕ). a ++ b) (occupant-spared ds (m .running))
+      (ap₂ (λ (a b : List ℕ). a ++ b) (away-struck ds (m .runners))
       (ap₂ (λ (a b : List ℕ). a ++ b) readies-killed waiters-killed ∙ sym (those-append (alive ds) (readies m) (waiters m)))
-      ∙ sym (those-append (alive ds) (occupant (m .running)) (readies m ++ waiters m))
+      ∙ sym (those-append (alive ds) (away (m .runners)) (readies m ++ waiters m)))
+      ∙ sym (those-append (alive ds) (occupant (m .running)) (away (m .runners) ++ (readies m ++ waiters m)))
 
   beside : All (Seat m) (readies m ++ waiters m)
-  beside = All-right (Seat m) (occupant (m .running)) (readies m ++ waiters m) (seated m g)
+  beside = All-right (Seat m) (away (m .runners)) (readies m ++ waiters m) (All-right (Seat m) (occupant (m .running)) (away (m .runners) ++ (readies m ++ waiters m)) (seated m g))
+
+  -- the other processors are rid of the family, and those whom this leaves idle are told
+  seats-rid : view r .elsewhere ≡ map (rid-of n) (view m .elsewhere)
+  seats-rid =
+      table-same (m .processors) (seat-at r) (λ k. rid-of n (seat-at m k)) (λ k _. rid-told n (row m) (row r) ds family-marked row-stays (m .runners) k (getD (m .lasts) k 0) (getD (m .idles) k 0) (g .in-seats k))
+      ∙ sym (table-map (rid-of n) (m .processors) (seat-at m))
+
+  idle-told : of-left ds (m .runners) ≡ left-idle n (view m)
+  unfolding left-idle
+  idle-told = mask-told (family n) (row m) ds family-marked (m .processors) (m .runners) (λ k. getD (m .lasts) k 0) (λ k. getD (m .idles) k 0) (g .few-processors) (g .in-seats) (g .no-runner)
 
   rows-killed : (l k : List ℕ) → k ≡ those (alive ds) l → All (Seat m) l → map (row r) k ≡ those (λ p. not (family n p)) (map (row m) l)
   rows-killed l k e s = ap (map (row r)) e ∙ spared-rows (row r) (row m) (λ p. not (family n p)) (λ x p. ap not (marked-family x p)) spared-row l s
@@ -143,7 +172,7 @@ module _ (m : Tables) (g : Shape m) (n : ℕ) (ds : List Bool) (w : Marks (m .pa
   family-rows : family-of n (view m) ≡ map (row m) (those (marked ds) (seats m))
   unfolding family-of
   family-rows =
-      ap (those (family n)) (seats-living m)
+      ap (those (family n)) (seats-living m g)
       ∙ those-map (family n) (row m) (seats m)
       ∙ ap (map (row m)) (those-same (Seat m) (λ x. family n (row m x)) (marked ds) marked-family (seats m) (seated m g))
 
@@ -182,7 +211,7 @@ module _ (m : Tables) (g : Shape m) (n : ℕ) (ds : List Bool) (w : Marks (m .pa
     view-killed : view r ≡ kill n (view m)
     unfolding kill
     view-killed =
-        let a : view r .running ≡ those (λ p. not (family n p)) (view m .running) = rows-killed (occupant (m .running)) (occupant (r .running)) (occupant-spared ds (m .running)) (All-left (Seat m) (occupant (m .running)) (readies m ++ waiters m) (seated m g)) in
+        let a : view r .running ≡ those (λ p. not (family n p)) (view m .running) = rows-killed (occupant (m .running)) (occupant (r .running)) (occupant-spared ds (m .running)) (All-left (Seat m) (occupant (m .running)) (away (m .runners) ++ (readies m ++ waiters m)) (seated m g)) in
         let b : view r .ready ≡ those (λ p. not (family n p)) (view m .ready) = rows-killed (readies m) (readies r) readies-killed (All-left (Seat m) (readies m) (waiters m) beside) in
         let t : sum (λ (p : Process). p .time) (family-of n (view m)) ≡ of-doomed ds (entry (m .times)) = family-sum (λ p. p .time) in
         λ i. record {
@@ -198,6 +227,7 @@ module _ (m : Tables) (g : Shape m) (n : ℕ) (ds : List Bool) (w : Marks (m .pa
           total = m .total;
           idle = m .idle;
           ended = m .ended + sym t i;
+          elsewhere = seats-rid i;
         }
 
   -- ---- the layout
@@ -277,6 +307,15 @@ module _ (m : Tables) (g : Shape m) (n : ℕ) (ds : List Bool) (w : Marks (m .pa
     no-handle = blank-killed (m .handles) (g .no-handle);
     no-time = blank-killed (m .times) (g .no-time);
     status = g .status;
+    runners-long = length-struck (leavingOf ds (m .runners)) (m .runners) ∙ g .runners-long;
+    lasts-long = g .lasts-long;
+    idles-long = g .idles-long;
+    some-processor = g .some-processor;
+    few-processors = g .few-processors;
+    in-seats = λ k. struck-cases (λ x. x ≤ base-slots) (leavingOf ds (m .runners)) (m .runners) k (λ _. omega arith) (λ _. g .in-seats k);
+    no-runner = λ k h. struck-cases (λ x. x ≡ 0) (leavingOf ds (m .runners)) (m .runners) k (λ _. refl) (λ _. g .no-runner k h);
+    no-last = g .no-last;
+    no-idle = g .no-idle;
     spent = omega (arith, g .spent, times-kept);
     within = g .within;
   }
@@ -287,10 +326,11 @@ module _ (m : Tables) (g : Shape m) (n : ℕ) (ds : List Bool) (w : Marks (m .pa
     unfolding spared-of
     runner-fate = rw (lt-leb base-slots (m .running) runs, w .each (m .running) runs)
 
-    pub kill-step : 0 < n → Kills n m (record { tables = r; ended = of-doomed ds (λ s. 2 ^ s) })
+    pub kill-step : 0 < n → Kills n m (record { tables = r; ended = of-doomed ds (λ s. 2 ^ s); idled = of-left ds (m .runners) })
     kill-step some = record {
       seen = view-killed some;
       told = sym (mask-is some);
+      told-idle = idle-told;
       gone = λ e. runner-fate ∙ rw e;
       stays = λ e. runner-fate ∙ rw e;
       shape = shape-killed some;

@@ -13,7 +13,7 @@ use Rattle.rules.specs.declared.Answer.{Answer}
 use Rattle.rules.specs.Numbers.{base-slots}
 use Rattle.rules.specs.Machine as book
 use Rattle.rules.specs.Machine.{Process, family-of, kill}
-use Rattle.rules.specs.Answers.{Outcome, mask, plain, doing}
+use Rattle.rules.specs.Answers.{Outcome, mask, left-idle, plain, doing}
 use Rattle.rules.specs.Rules.{schedule, die, pass-up-or-die}
 use Rattle.lines.specs.declared.Found.the-variants as found
 use Rattle.tables.specs.declared.Tables.{Tables}
@@ -28,12 +28,12 @@ use Rattle.kin.proofs.Climbs.{kin-here}
 use Rattle.tables.proofs.Choosing.{comes-by}
 
 -- what follows a kill, said of the machine that is left
-pub after-kill : (f : Answer → book.Machine → Outcome) (z : Result) (n : ℕ) (m : Tables) (k : Killed) → Kills n m k → (x : Answer) → x ≡ ended-told z (k .ended)
-    → f (ended-told z (mask (family-of n (view m)))) (kill n (view m)) ≡ f x (view (k .tables))
-after-kill f z n m k t x e = (λ i. f (ended-told z (sym (t .told) i)) (sym (t .seen) i)) ∙ ap (λ (y : Answer). f y (view (k .tables))) (sym e)
+pub after-kill : (f : Answer → book.Machine → Outcome) (z : Result) (n : ℕ) (m : Tables) (k : Killed) → Kills n m k → (x : Answer) → x ≡ ended-told z (k .ended) (k .idled)
+    → f (ended-told z (mask (family-of n (view m))) (left-idle n (view m))) (kill n (view m)) ≡ f x (view (k .tables))
+after-kill f z n m k t x e = (λ i. f (ended-told z (sym (t .told) i) (sym (t .told-idle) i)) (sym (t .seen) i)) ∙ ap (λ (y : Answer). f y (view (k .tables))) (sym e)
 
 -- the named end with whoever runs, and schedule
-pub dies : (n : ℕ) (m : Tables) (k : Killed) → Kills n m k → (x : Answer) → x ≡ ended-told Silent (k .ended) → (r : Settled) → Comes (schedule x (view (k .tables))) r → Comes (die n (view m)) r
+pub dies : (n : ℕ) (m : Tables) (k : Killed) → Kills n m k → (x : Answer) → x ≡ ended-told Silent (k .ended) (k .idled) → (r : Settled) → Comes (schedule x (view (k .tables))) r → Comes (die n (view m)) r
 unfolding die
 dies n m k t x e r c = comes-by _ _ r (after-kill schedule Silent n m k t x e) c
 

@@ -1,5 +1,6 @@
 -- Laws over tables alone: who sits where, and what each change leaves.
 pub mod Coding
+pub mod Away
 pub mod Seats
 pub mod Moves
 pub mod Choosing
@@ -10,4 +11,5 @@ pub mod Endings
 pub mod Billing
 pub mod Trials
 pub mod Begins
+pub mod Turning
 pub mod Unique

@@ -23,7 +23,7 @@ use Rattle.tables.proofs.Seats.{occ-self, occ-nobody, occ-seats, pos-li
 
 -- the same tables, but for who is where
 abbrev pub put-places : ℕ → List ℕ → ℕ → List ℕ → ℕ → List ℕ → Tables → Tables
-put-places r q n w k ls m = record { ids = m .ids; taken = m .taken; parents = m .parents; customers = m .customers; priorities = m .priorities; handles = m .handles; times = m .times; lines = ls; ready = q; nready = n; waits = w; nwaits = k; running = r; sems = m .sems; ceilings = m .ceilings; next = m .next; status = m .status; last = m .last; total = m .total; idle = m .idle; ended = m .ended }
+put-places r q n w k ls m = record { ids = m .ids; taken = m .taken; parents = m .parents; customers = m .customers; priorities = m .priorities; handles = m .handles; times = m .times; lines = ls; ready = q; nready = n; waits = w; nwaits = k; running = r; sems = m .sems; ceilings = m .ceilings; next = m .next; status = m .status; last = m .last; total = m .total; idle = m .idle; ended = m .ended; runners = m .runners; lasts = m .lasts; idles = m .idles; processors = m .processors }
 
 -- each slot is seated as often as before, and the codes are those of the waiting
 pub moved-shape : (m : Tables) → Shape m → (r : ℕ) (q : List ℕ) (n : ℕ) (w : List ℕ) (k : ℕ) (ls : List ℕ)
@@ -56,6 +56,15 @@ moved-shape m g r q n w k ls runs ready waits long homes codes = record {
   no-handle = g .no-handle;
   no-time = g .no-time;
   status = g .status;
+  runners-long = g .runners-long;
+  lasts-long = g .lasts-long;
+  idles-long = g .idles-long;
+  some-processor = g .some-processor;
+  few-processors = g .few-processors;
+  in-seats = g .in-seats;
+  no-runner = g .no-runner;
+  no-last = g .no-last;
+  no-idle = g .no-idle;
   spent = g .spent;
   within = g .within;
 }

@@ -22,8 +22,9 @@ use Rattle.lines.proofs.Laws.{line-size}
 use Rattle.lines.proofs.Bridge.{those-map, any-map, those-same, any-same, occurring, occ-slot, slots-append}
 use Rattle.tables.specs.declared.Tables.{Tables}
 use Rattle.tables.specs.Codes.{decode, last-code}
-use Rattle.tables.specs.View.{row, waiter, occupant, readies, waiters, seats, view, live, Shape}
+use Rattle.tables.specs.View.{row, waiter, occupant, away, readies, waiters, seats, view, live, Shape}
 use Rattle.tables.proofs.Coding.{same-code, nucleus-code}
+use Rattle.tables.proofs.Away.{seated-away, away-slots}
 
 -- ---- 0 or 1
 pub live-pos : (x : ℕ) → live x ≡ 1 → 0 < x
@@ -67,20 +68,27 @@ unfolding occ
 occ-nobody s = refl
 
 -- ---- the living, by slot
+abbrev getD-of : List ℕ → ℕ → ℕ
+getD-of l k = getD l k 0
+
 rows-of : (m : Tables) (l : List ℕ) → map (λ (w : Waiter). w .process) (map (waiter m) l) ≡ map (row m) l
 rows-of m [] = refl
 rows-of m (x ∷ l) = ap (λ (r : List Process). row m x ∷ r) (rows-of m l)
 
-pub seats-living : (m : Tables) → living (view m) ≡ map (row m) (seats m)
+pub seats-living : (m : Tables) → Shape m → living (view m) ≡ map (row m) (seats m)
 unfolding living
-seats-living m =
-    ap (λ (l : List Process). map (row m) (occupant (m .running)) ++ (map (row m) (readies m) ++ l)) (rows-of m (waiters m))
-    ∙ ap (λ (l : List Process). map (row m) (occupant (m .running)) ++ l) (sym (map-append (row m) (readies m) (waiters m)))
-    ∙ sym (map-append (row m) (occupant (m .running)) (readies m ++ waiters m))
+seats-living m g =
+    ap₂ (λ (a b : List Process). map (row m) (occupant (m .running)) ++ (a ++ (map (row m) (readies m) ++ b)))
+    (seated-away (row m) (m .runners) (m .processors) (getD-of (m .lasts)) (getD-of (m .idles)) (g .no-runner)) (rows-of m (waiters m))
+    ∙ ap (λ (l : List Process). map (row m) (occupant (m .running)) ++ (map (row m) (away (m .runners)) ++ l)) (sym (map-append (row m) (readies m) (waiters m)))
+    ∙ ap (λ (l : List Process). map (row m) (occupant (m .running)) ++ l) (sym (map-append (row m) (away (m .runners)) (readies m ++ waiters m)))
+    ∙ sym (map-append (row m) (occupant (m .running)) (away (m .runners) ++ (readies m ++ waiters m)))
 
--- how often a slot is seated: running, ready, waiting
-pub occ-seats : (m : Tables) (s : ℕ) → occ s (seats m) ≡ occ s (occupant (m .running)) + (occ s (readies m) + occ s (waiters m))
-occ-seats m s = occ-append s (occupant (m .running)) (readies m ++ waiters m) ∙ ap (λ n. occ s (occupant (m .running)) + n) (occ-append s (readies m) (waiters m))
+-- how often a slot is seated: running here, elsewhere, ready, waiting
+pub occ-seats : (m : Tables) (s : ℕ) → occ s (seats m) ≡ occ s (occupant (m .running)) + (occ s (away (m .runners)) + (occ s (readies m) + occ s (waiters m)))
+occ-seats m s =
+    occ-append s (occupant (m .running)) (away (m .runners) ++ (readies m ++ waiters m))
+    ∙ ap (λ n. occ s (occupant (m .running)) + n) (occ-append s (away (m .runners)) (readies m ++ waiters m) ∙ ap (λ n. occ s (away (m .runners)) + n) (occ-append s (readies m) (waiters m)))
 
 -- somebody alive
 pub record Seat (m : Tables) (s : ℕ) : Type 0 where
@@ -100,7 +108,10 @@ at-nucleus m = in-lines (m .lines) (base-sems + 1) last-code
 
 module _ (m : Tables) (g : Shape m) where
   pub seats-slots : InSlots base-slots (seats m)
-  seats-slots = slots-append base-slots (occupant (m .running)) (readies m ++ waiters m) (occupant-slots (m .running)) (slots-append base-slots (readies m) (waiters m) (g .ready-line .slots) (g .waits-line .slots))
+  seats-slots =
+      slots-append base-slots (occupant (m .running)) (away (m .runners) ++ (readies m ++ waiters m)) (occupant-slots (m .running))
+      (slots-append base-slots (away (m .runners)) (readies m ++ waiters m) (away-slots (m .runners) (g .in-seats))
+      (slots-append base-slots (readies m) (waiters m) (g .ready-line .slots) (g .waits-line .slots)))
 
   pub seat : (s : ℕ) → 1 ≤ occ s (seats m) → Seat m s
   seat s b =
@@ -114,6 +125,9 @@ module _ (m : Tables) (g : Shape m) where
   -- who is alive by its id is seated
   pub living-seat : (s : ℕ) → s < base-slots → 0 < getD (m .ids) s 0 → Seat m s
   living-seat s k h = seat s (omega (arith, g .homes s k, pos-live (getD (m .ids) s 0) h))
+
+  pub away-seat : (s : ℕ) → 1 ≤ occ s (away (m .runners)) → Seat m s
+  away-seat s b = seat s (omega (arith, occ-seats m s))
 
   pub ready-seat : (s : ℕ) → 1 ≤ occ s (readies m) → Seat m s
   ready-seat s b = seat s (omega (arith, occ-seats m s))
@@ -137,10 +151,13 @@ module _ (m : Tables) (g : Shape m) where
   pub few : length (seats m) ≤ base-slots
   few = omega (arith, length-occ base-slots (seats m) seats-slots, tally-le (λ s. occ s (seats m)) (λ s. 1) base-slots (λ s b. omega (arith, g .homes s b, live-le (getD (m .ids) s 0))), tally-ones base-slots)
 
-  pub sizes : length (seats m) ≡ length (occupant (m .running)) + (m .nready + m .nwaits)
+  pub sizes : length (seats m) ≡ length (occupant (m .running)) + (length (away (m .runners)) + (m .nready + m .nwaits))
   sizes =
-      length-append (occupant (m .running)) (readies m ++ waiters m)
-      ∙ ap (λ n. length (occupant (m .running)) + n) (length-append (readies m) (waiters m) ∙ ap₂ (λ a b. a + b) (line-size (g .ready-line)) (line-size (g .waits-line)))
+      length-append (occupant (m .running)) (away (m .runners) ++ (readies m ++ waiters m))
+      ∙ ap (λ n. length (occupant (m .running)) + n) (
+      length-append (away (m .runners)) (readies m ++ waiters m)
+      ∙ ap (λ n. length (away (m .runners)) + n) (length-append (readies m) (waiters m) ∙ ap₂ (λ a b. a + b) (line-size (g .ready-line)) (line-size (g .waits-line)))
+      )
 
   -- who runs leaves room in both lines, and one who waits in the ready line
   pub room-beside : m .running < base-slots → m .nready + m .nwaits < base-slots
@@ -152,7 +169,7 @@ module _ (m : Tables) (g : Shape m) where
   -- the living of a customer, slot by slot
   pub members : (c : ℕ) → living-of c (view m) ≡ members-of base-slots (m .ids) (m .customers) c
   members c =
-      ap (sum (λ (p : Process). count (eqb c (p .customer)))) (seats-living m)
+      ap (sum (λ (p : Process). count (eqb c (p .customer)))) (seats-living m g)
       ∙ sum-over (λ (p : Process). count (eqb c (p .customer))) (row m) (seats m)
       ∙ members-seated (m .ids) (m .customers) c base-slots (seats m) seats-slots (g .homes)
 

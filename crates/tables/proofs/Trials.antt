@@ -3,7 +3,7 @@
 use mathlib.Core.Path.{_≡_, refl, sym, ap, _∙_}
 use mathlib.Core.Bool.{Bool, true, false, not, _&&_, _||_, true≢false}
 use mathlib.Core.List.{List, [], _∷_}
-use Prim.Native.Nat.{ℕ, zero, suc, _+_, _-_, _<_}
+use Prim.Native.Nat.{ℕ, zero, suc, _+_, _-_, _<_, _≤_}
 use native.Mathlib.Omega.{arith}
 use native.Mathlib.Decide.{ℕ-discrete}
 use lib.Dec.{eqb, leb, ltb}
@@ -11,12 +11,13 @@ use lib.ListN.{length, take, drop, getD, replicate}
 use borrow.Author.Tests.{eqb-true, leb-true, ltb-true, eq-eqb, lt-ltb}
 use Rattle.rules.specs.Words.{All}
 use Rattle.rules.proofs.Cases.{and-left, and-right}
-use Rattle.rules.specs.Numbers.{base-slots, base-sems, base-customers, time-limit}
+use Rattle.rules.specs.Numbers.{base-slots, base-sems, base-customers, most-processors, time-limit}
 use Rattle.lines.specs.Lines.{Line, occ, entry, tally, mask-of-taken}
 use Rattle.tables.specs.declared.Tables.{Tables}
 use Rattle.tables.specs.Codes.{last-code}
 use Rattle.tables.specs.View.{waiters, seats, live, Shape}
 use Rattle.kin.specs.Families.{Parent}
+use Rattle.seats.specs.Seats.{InSeats}
 
 -- ---- tests for each number below another, and for each in a list
 unfoldable pub all-below : (ℕ → Bool) → ℕ → Bool
@@ -134,18 +135,30 @@ machine-tests m =
     ∷ all-true (line-tests (m .waits) (m .nwaits))
     ∷ leb (m .running) base-slots
     ∷ leb (m .status) 2
-    ∷ eqb (m .idle + m .ended + tally (entry (m .times)) base-slots) (m .total)
+    ∷ eqb (m .idle + tally (entry (m .idles)) most-processors + m .ended + tally (entry (m .times)) base-slots) (m .total)
     ∷ leb (m .total) time-limit
     ∷ all-below (λ s. all-true (slot-tests m s)) base-slots
     ∷ eqb (m .taken) (mask-of-taken base-slots (m .ids))
     ∷ eqb (length (m .customers)) base-slots
     ∷ []
 
--- the layout but for the numbers of semaphores and customers
+-- the layout of the processors' seats
+pub record Benched (m : Tables) : Type 0 where
+  pub runners-long : length (m .runners) ≡ most-processors
+  pub lasts-long : length (m .lasts) ≡ most-processors
+  pub idles-long : length (m .idles) ≡ most-processors
+  pub some-processor : 1 ≤ m .processors
+  pub few-processors : m .processors ≤ most-processors
+  pub in-seats : InSeats (m .runners)
+  pub no-runner : (k : ℕ) → m .processors ≤ k → getD (m .runners) k 0 ≡ 0
+  pub no-last : (k : ℕ) → m .processors ≤ k → getD (m .lasts) k 0 ≡ 0
+  pub no-idle : (k : ℕ) → m .processors ≤ k → getD (m .idles) k 0 ≡ 0
+
+-- the layout but for the numbers of semaphores and customers and the seats
 unfoldable pub laid-out : Tables → Bool
 laid-out m = all-true (machine-tests m)
 
-module _ (m : Tables) (sems : length (m .sems) ≡ base-sems) (ceilings : length (m .ceilings) ≡ base-customers) (holds : laid-out m ≡ true) where
+module _ (m : Tables) (sems : length (m .sems) ≡ base-sems) (ceilings : length (m .ceilings) ≡ base-customers) (bench : Benched m) (holds : laid-out m ≡ true) where
   whole : All (λ b. b ≡ true) (machine-tests m)
   unfolding laid-out
   whole = each-true (machine-tests m) holds
@@ -179,7 +192,16 @@ module _ (m : Tables) (sems : length (m .sems) ≡ base-sems) (ceilings : length
     no-handle = λ s b. blank-tested (getD (m .ids) s 0) (getD (m .handles) s 0) (at-slot s b .1 .1 .1 .1 .1 .1 .1 .0);
     no-time = λ s b. blank-tested (getD (m .ids) s 0) (getD (m .times) s 0) (at-slot s b .1 .1 .1 .1 .1 .1 .1 .1 .0);
     status = leb-true (m .status) 2 (whole .1 .1 .1 .1 .1 .1 .1 .1 .1 .0);
-    spent = eqb-true (m .idle + m .ended + tally (entry (m .times)) base-slots) (m .total) (whole .1 .1 .1 .1 .1 .1 .1 .1 .1 .1 .0);
+    runners-long = bench .runners-long;
+    lasts-long = bench .lasts-long;
+    idles-long = bench .idles-long;
+    some-processor = bench .some-processor;
+    few-processors = bench .few-processors;
+    in-seats = bench .in-seats;
+    no-runner = bench .no-runner;
+    no-last = bench .no-last;
+    no-idle = bench .no-idle;
+    spent = eqb-true (m .idle + tally (entry (m .idles)) most-processors + m .ended + tally (entry (m .times)) base-slots) (m .total) (whole .1 .1 .1 .1 .1 .1 .1 .1 .1 .1 .0);
     within = leb-true (m .total) time-limit (whole .1 .1 .1 .1 .1 .1 .1 .1 .1 .1 .1 .0);
   }
 

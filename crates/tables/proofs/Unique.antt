@@ -10,17 +10,19 @@ use native.Mathlib.Decide.{ℕ-discrete}
 use lib.Dec.{ltb}
 use lib.ListN.{length, getD}
 use lib.Seq.{ext-getD}
-use borrow.Author.Tests.{ltb-false}
+use borrow.Author.Tests.{ltb-true, ltb-false}
 use Rattle.rules.specs.Words.{if_then_else_, first}
-use Rattle.rules.specs.Numbers.{base-slots}
+use Rattle.rules.specs.Numbers.{base-slots, most-processors}
 use Rattle.rules.specs.Machine as book
-use Rattle.rules.specs.Machine.{Process, Waiter, living}
+use Rattle.rules.specs.Machine.{Process, Waiter, living, blank}
 use Rattle.lines.specs.Lines.{occ, mask-of-taken}
 use Rattle.lines.proofs.Laws.{line-unique}
 use Rattle.lines.proofs.Bridge.{row-at}
 use Rattle.tables.specs.declared.Tables.{Tables}
 use Rattle.tables.specs.Codes.{encode, status-of}
-use Rattle.tables.specs.View.{row, waiter, occupant, readies, waiters, seats, view, live, Shape}
+use Rattle.tables.specs.View.{row, waiter, occupant, away, seat-at, readies, waiters, seats, view, live, Shape}
+use Rattle.seats.specs.Seats.{held-slot}
+use Rattle.seats.proofs.Tabled.{table-long, table-get}
 use Rattle.kin.specs.Families.{elders}
 use Rattle.tables.proofs.Coding.{encode-decode}
 use Rattle.kin.proofs.Climbs.{elders-top, elders-up}
@@ -45,6 +47,13 @@ occupant-one a b ha hb = go (ltb a base-slots) refl (ltb b base-slots) refl
     go true p false q e = let z : _≡_ {A = ℕ} 0 1 = cc in absurd (omega arith)
     go false p true q e = let z : _≡_ {A = ℕ} 0 1 = cc in absurd (omega arith)
     go false p false q e = omega (arith, ltb-false a base-slots p, ltb-false b base-slots q)
+
+-- who runs in a seat, from the list of none or one
+held-one : (a b : ℕ) → held-slot a ≡ held-slot b → a ≡ b
+held-one zero zero e = refl
+held-one zero (suc y) e = let z : _≡_ {A = ℕ} 0 1 = cc in absurd (omega arith)
+held-one (suc x) zero e = let z : _≡_ {A = ℕ} 0 1 = cc in absurd (omega arith)
+held-one (suc x) (suc y) e = ap (λ (l : List ℕ). suc (first l 0 (λ n. n))) e
 
 status-one : (x y : ℕ) → x ≤ 2 → y ≤ 2 → status-of x ≡ status-of y → x ≡ y
 status-one zero zero a b e = refl
@@ -72,11 +81,46 @@ module _ (a b : Tables) (g : Shape a) (h : Shape b) (e : view a ≡ view b) wher
   unfolding waiter-slot
   waiters-same = sym (slots-of waiter-slot (waiter a) (λ s. refl) (waiters a)) ∙ ap (λ (m : book.Machine). map waiter-slot (m .waiting)) e ∙ slots-of waiter-slot (waiter b) (λ s. refl) (waiters b)
 
+  -- ---- the seats
+  processors-same : a .processors ≡ b .processors
+  processors-same = sym (table-long (a .processors) (seat-at a)) ∙ ap (λ (m : book.Machine). length (m .elsewhere)) e ∙ table-long (b .processors) (seat-at b)
+
+  seat-same : (k : ℕ) → k < a .processors → seat-at a k ≡ seat-at b k
+  seat-same k l =
+      sym (table-get (a .processors) k (seat-at a) blank l)
+      ∙ ap (λ (m : book.Machine). getD (m .elsewhere) k blank) e
+      ∙ table-get (b .processors) k (seat-at b) blank (omega (arith, l, processors-same))
+
+  bench : (l r : List ℕ) → length l ≡ most-processors → length r ≡ most-processors → ((k : ℕ) → k < a .processors → getD l k 0 ≡ getD r k 0)
+      → ((k : ℕ) → a .processors ≤ k → getD l k 0 ≡ 0) → ((k : ℕ) → b .processors ≤ k → getD r k 0 ≡ 0) → l ≡ r
+  bench l r x y some none₁ none₂ = ext-getD 0 l r (x ∙ sym y) (λ k _. go k (ltb k (a .processors)) refl)
+    where
+      go : (k : ℕ) (t : Bool) → ltb k (a .processors) ≡ t → getD l k 0 ≡ getD r k 0
+      go k true q = some k (ltb-true k (a .processors) q)
+      go k false q = let past = ltb-false k (a .processors) q in none₁ k past ∙ sym (none₂ k (omega (arith, past, processors-same)))
+
+  runners-same : a .runners ≡ b .runners
+  unfolding slot
+  runners-same = bench (a .runners) (b .runners) (g .runners-long) (h .runners-long) one (g .no-runner) (h .no-runner)
+    where
+      one : (k : ℕ) → k < a .processors → getD (a .runners) k 0 ≡ getD (b .runners) k 0
+      one k l = held-one (getD (a .runners) k 0) (getD (b .runners) k 0) (
+          sym (slots-of slot (row a) (λ s. refl) (held-slot (getD (a .runners) k 0)))
+          ∙ ap (λ (s : book.Seat). map slot (s .running)) (seat-same k l)
+          ∙ slots-of slot (row b) (λ s. refl) (held-slot (getD (b .runners) k 0))
+          )
+
+  lasts-same : a .lasts ≡ b .lasts
+  lasts-same = bench (a .lasts) (b .lasts) (g .lasts-long) (h .lasts-long) (λ k l. ap (λ (s : book.Seat). s .last) (seat-same k l)) (g .no-last) (h .no-last)
+
+  idles-same : a .idles ≡ b .idles
+  idles-same = bench (a .idles) (b .idles) (g .idles-long) (h .idles-long) (λ k l. ap (λ (s : book.Seat). s .idle) (seat-same k l)) (g .no-idle) (h .no-idle)
+
   seats-same : seats a ≡ seats b
-  seats-same = λ i. occupant (running-same i) ++ (readies-same i ++ waiters-same i)
+  seats-same = λ i. occupant (running-same i) ++ (away (runners-same i) ++ (readies-same i ++ waiters-same i))
 
   living-same : map (row a) (seats a) ≡ map (row b) (seats b)
-  living-same = sym (seats-living a) ∙ ap living e ∙ seats-living b
+  living-same = sym (seats-living a g) ∙ ap living e ∙ seats-living b h
 
   row-same : (s : ℕ) → Seat a s → row a s ≡ row b s
   row-same s p = row-at (row a) (row b) (seats a) (living-same ∙ ap (map (row b)) (sym seats-same)) s (omega (arith, p .once))
@@ -180,4 +224,8 @@ module _ (a b : Tables) (g : Shape a) (h : Shape b) (e : view a ≡ view b) wher
         total = e i .total;
         idle = e i .idle;
         ended = e i .ended;
+        runners = runners-same i;
+        lasts = lasts-same i;
+        idles = idles-same i;
+        processors = processors-same i;
       }

@@ -8,7 +8,7 @@ use Rattle.rules.specs.Numbers.{base-slots}
 use Rattle.rules.specs.Words.{front}
 use Rattle.rules.specs.Machine as book
 use Rattle.rules.specs.Machine.{line, wake, wake-all, kill, family-of}
-use Rattle.rules.specs.Answers.{Outcome, mask}
+use Rattle.rules.specs.Answers.{Outcome, mask, left-idle}
 use Rattle.tables.specs.declared.Tables.{Tables}
 use Rattle.tables.specs.declared.Woken.{Woken}
 use Rattle.tables.specs.declared.Killed.{Killed}
@@ -46,6 +46,7 @@ pub record Ticks (m : Tables) (r : Woken) : Type 0 where
 pub record Kills (n : ℕ) (m : Tables) (r : Killed) : Type 0 where
   pub seen : view (r .tables) ≡ kill n (view m)
   pub told : r .ended ≡ mask (family-of n (view m))
+  pub told-idle : r .idled ≡ left-idle n (view m)
   pub gone : kin (m .parents) (m .ids) n (m .running) ≡ true → r .tables .running ≡ base-slots
   pub stays : kin (m .parents) (m .ids) n (m .running) ≡ false → r .tables .running ≡ m .running
   pub shape : Shape (r .tables)

@@ -21,6 +21,7 @@ use lines::toll;
 use rules::Action;
 use rules::Cause;
 use rules::Result;
+use seats::leaving;
 
 impl Tables {
     // "Ending a process removes it from its line without changing the order of the others or any semaphore's value";
@@ -49,9 +50,13 @@ impl Tables {
         let w = self.nwaits;
         let j = drop_marked(&mut self.waits, w, &doomed);
         self.nwaits = j;
+        let left = leaving(&self.runners, &doomed);
+        let idle = seats::mask(&left);
+        seats::strike(&mut self.runners, &left);
         Killed {
             tables: self,
             ended: bits,
+            idled: idle,
         }
     }
 
@@ -66,7 +71,7 @@ impl Tables {
             let id = self.ids[at];
             let k = self.kill(id);
             let m = k.tables;
-            let x = ends(Result::Silent, k.ended);
+            let x = ends(Result::Silent, k.ended, k.idled);
             return m.schedule(x);
         }
         let slot = at as u8;

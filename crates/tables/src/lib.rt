@@ -5,6 +5,7 @@
 use rules::Answer;
 use rules::CUSTOMERS;
 use rules::DEVICES;
+use rules::PROCESSORS;
 use rules::SEMAPHORES;
 use rules::SLOTS;
 
@@ -13,6 +14,7 @@ mod fresh;
 mod kills;
 mod lines_of;
 mod schedules;
+mod turns;
 
 // Codes of lines: first the semaphores', then the sub-devices', then the pseudo-clock's. The nucleus lines are those
 // from the first sub-device to the pseudo-clock.
@@ -31,8 +33,10 @@ pub const PANICKED: u8 = 2;
 
 // By slot: ids (0 is free), with the taken slots as a mask beside them; the parent's slot and one more (0 is none),
 // customers, priorities, handles, times, and the code of the line that a slot waits in (0 is none). The ready line and
-// the waiting, slots in order, each with its length. Who runs (the number of slots stands for nobody). By customer: how
-// many it may have alive. Free rows and unused places are zero.
+// the waiting, slots in order, each with its length. By customer: how many it may have alive. Of the processor whose
+// event is in hand: who runs (the number of slots stands for nobody), the last clock reading, idle time. The same by
+// processor, who runs being its slot and one more (0 is nobody); and how many processors there are. Free rows and
+// unused places are zero.
 pub struct Tables {
     pub ids: [u32; SLOTS],
     pub taken: u64,
@@ -55,6 +59,10 @@ pub struct Tables {
     pub total: u64,
     pub idle: u64,
     pub ended: u64,
+    pub runners: [u8; PROCESSORS],
+    pub lasts: [u32; PROCESSORS],
+    pub idles: [u64; PROCESSORS],
+    pub processors: usize,
 }
 
 // The tables handed back, with the answer beside them.
@@ -69,8 +77,9 @@ pub struct Woken {
     pub woken: u64,
 }
 
-// The tables, and the mask of who ended.
+// The tables, the mask of who ended, and that of the processors left idle.
 pub struct Killed {
     pub tables: Tables,
     pub ended: u64,
+    pub idled: u8,
 }

@@ -1,5 +1,5 @@
 // "Schedule: first in the ready line runs. If the line is empty: nobody alive, halt; someone waiting on a nucleus line,
-// wait; otherwise panic."
+// wait; otherwise panic." (xiii): "a processor waits also when another is running somebody".
 ghost use mathlib.Core.Path.{_≡_};
 ghost use Prim.Native.Nat.{_<_};
 ghost use Rattle.rules.specs.Numbers.{base-slots};
@@ -19,13 +19,21 @@ use lines::remove_at;
 use rules::Action;
 use rules::Answer;
 use rules::SLOTS;
+use seats::somebody_runs;
 
 impl Tables {
-    // Nobody is ready, and nobody runs.
+    // Nobody is ready, and nobody runs here.
     fn nobody_ready(mut self, x: Answer) -> Settled
         requires { ⌜ Shape self × (self .running ≡ base-slots) × (self .nready ≡ 0) ⌝ }
         ensures { λ r. ⌜ Comes (nobody-ready x (view self)) r ⌝ }
     {
+        if somebody_runs(&self.runners) {
+            let wait = does(Action::Wait, x);
+            return Settled {
+                tables: self,
+                answer: wait,
+            };
+        }
         let n = self.nwaits;
         if n == 0 {
             self.status = HALTED;

@@ -10,7 +10,9 @@ use std::process::ExitCode;
 
 const USAGE: &str = "usage: generate SEED N           a log of N events, or as many as fit
        generate --damage SEED N  the same, damaged
-       generate --stream SEED N  a recorded stream of N events, of any length, that never ends
+       generate --stream SEED N [PROCESSORS]
+                                 a recorded stream of N events, of any length, that never ends;
+                                 PROCESSORS is 1 to 8, chosen by the seed when it isn't given
        generate --many A..B [N]  the logs of seeds A to B, both included, each after its length in
                                  4 bytes, least significant first; those of odd seeds are damaged
        generate --count A..B [N] how often what came up in these logs
@@ -34,7 +36,11 @@ type Done = Result<(), Box<dyn Error>>;
 fn write(arguments: &[&str], out: &mut impl Write) -> Done {
     match *arguments {
         ["--damage", seed, n] => out.write_all(&damage::log(number(seed)?, events(n)?))?,
-        ["--stream", seed, n] => stream(number(seed)?, number(n)?, out)?,
+        ["--stream", seed, n] => stream(Generator::stream(number(seed)?), number(n)?, out)?,
+        ["--stream", seed, n, many] => {
+            let generator = Generator::stream(number(seed)?).on_processors(processors(many)?);
+            stream(generator, number(n)?, out)?;
+        }
         ["--many", seeds] => many(range(seeds)?, EVENTS, out)?,
         ["--many", seeds, n] => many(range(seeds)?, events(n)?, out)?,
         ["--count", seeds] => count(range(seeds)?, EVENTS, out)?,
@@ -47,8 +53,7 @@ fn write(arguments: &[&str], out: &mut impl Write) -> Done {
     Ok(())
 }
 
-fn stream(seed: u64, events: u64, out: &mut impl Write) -> Done {
-    let mut generator = Generator::stream(seed);
+fn stream(mut generator: Generator, events: u64, out: &mut impl Write) -> Done {
     out.write_all(&generator.start.to_field())?;
     for _ in 0..events {
         out.write_all(&generator.event().to_field())?;
@@ -74,6 +79,13 @@ fn count(seeds: RangeInclusive<u64>, events: usize, out: &mut impl Write) -> Don
 
 fn number(text: &str) -> Result<u64, Box<dyn Error>> {
     text.parse().map_err(|_| format!("{text:?} is not a number from 0 on\n{USAGE}").into())
+}
+
+fn processors(text: &str) -> Result<u8, Box<dyn Error>> {
+    match text.parse() {
+        Ok(many) if (1..=8).contains(&many) => Ok(many),
+        _ => Err(format!("{text:?} is not a number of processors, 1 to 8\n{USAGE}").into()),
+    }
 }
 
 /// A number of events. No log holds more than 65,536.

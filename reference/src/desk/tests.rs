@@ -14,35 +14,35 @@ fn kernel(clock: u32, a0: i32, a1: u32) -> Event {
 
 /// A kernel call with a handle in a3.
 fn create(clock: u32, a0: i32, a1: u32, a3: u32) -> Event {
-    Event { clock, kind: Kind::Call(Call { mode: Mode::Kernel, a0, a1, a2: 7, a3 }) }
+    Event { clock, processor: 0, kind: Kind::Call(Call { mode: Mode::Kernel, a0, a1, a2: 7, a3 }) }
 }
 
 /// A create whose a2 / 256 names a customer.
 fn names(customer: u32) -> Event {
     let a2 = 256 * customer + 255;
-    Event { clock: 0, kind: Kind::Call(Call { mode: Mode::Kernel, a0: -1, a1: 0, a2, a3: 0 }) }
+    Event { clock: 0, processor: 0, kind: Kind::Call(Call { mode: Mode::Kernel, a0: -1, a1: 0, a2, a3: 0 }) }
 }
 
 fn user(clock: u32, a0: i32) -> Event {
-    Event { clock, kind: Kind::Call(Call { mode: Mode::User, a0, a1: 0, a2: 0, a3: 0 }) }
+    Event { clock, processor: 0, kind: Kind::Call(Call { mode: Mode::User, a0, a1: 0, a2: 0, a3: 0 }) }
 }
 
 fn interrupt(clock: u32, line: u8, first: u8, second: u8) -> Event {
-    Event { clock, kind: Kind::Interrupt(Interrupt { line, first, second }) }
+    Event { clock, processor: 0, kind: Kind::Interrupt(Interrupt { line, first, second }) }
 }
 
 fn exception(clock: u32, code: u8) -> Event {
-    Event { clock, kind: Kind::Exception { code } }
+    Event { clock, processor: 0, kind: Kind::Exception { code } }
 }
 
 fn fresh(number: usize, value: u32) -> Desk {
     let mut values = ZERO;
     values[number] = value;
-    Desk::fresh(0, values, ALL).unwrap()
+    Desk::fresh(0, values, ALL, 1).unwrap()
 }
 
 fn with_ceilings(ceilings: [u16; CUSTOMERS]) -> Desk {
-    Desk::fresh(0, ZERO, ceilings).unwrap()
+    Desk::fresh(0, ZERO, ceilings, 1).unwrap()
 }
 
 /// A fresh machine with some values and so many children of id 1, with handle 5, at clock 0.
@@ -54,24 +54,41 @@ fn family(children: usize) -> Desk {
     desk
 }
 
+/// The same event at another processor.
+fn at(processor: u8, event: Event) -> Event {
+    Event { processor, ..event }
+}
+
+/// A machine of so many processors, all places for customer 0.
+fn several(processors: u8) -> Desk {
+    Desk::fresh(0, ZERO, ALL, processors).unwrap()
+}
+
 /// The answer's line without its number.
 fn say(desk: &mut Desk, event: Event) -> String {
     let answer = desk.event(&event);
     line::Line { number: 0, answer }.to_string()[2..].to_string()
 }
 
+/// Events that leave no processor idle: their lines end in 0.
 #[track_caller]
 fn play<const N: usize>(desk: &mut Desk, script: [(Event, &str); N]) {
     for (number, (event, line)) in script.into_iter().enumerate() {
-        assert_eq!(say(desk, event), line, "step {number}: {event}");
+        assert_eq!(say(desk, event), format!("{line} 0"), "step {number}: {event}");
     }
+}
+
+/// Events that leave the processors of this mask idle.
+#[track_caller]
+fn leaves(desk: &mut Desk, event: Event, line: &str, mask: u8) {
+    assert_eq!(say(desk, event), format!("{line} {mask}"), "{event}");
 }
 
 /// A refusal leaves the machine as it was.
 #[track_caller]
 fn refuses(desk: &Desk, event: Event, number: u8) {
     let mut after = desk.clone();
-    assert_eq!(say(&mut after, event), format!("{number} none - - - - 0 0"), "{event}");
+    assert_eq!(say(&mut after, event), format!("{number} none - - - - 0 0 0"), "{event}");
     assert_eq!(&after, desk);
 }
 
@@ -79,7 +96,7 @@ fn refuses(desk: &Desk, event: Event, number: u8) {
 fn whole_example() {
     let mut values = ZERO;
     values[0] = 1;
-    let mut desk = Desk::fresh(1000, values, ALL).unwrap();
+    let mut desk = Desk::fresh(1000, values, ALL, 1).unwrap();
     play(
         &mut desk,
         [
@@ -95,7 +112,7 @@ fn whole_example() {
     );
     assert_eq!((desk.process(0).time, desk.process(1).time), (800, 300));
     play(&mut desk, [(kernel(2200, -2, 0), "0 halt - - - - 0 3")]);
-    assert_eq!((desk.ended_time, desk.idle, desk.total), (1200, 0, 1200));
+    assert_eq!((desk.ended_time, desk.processors[0].idle, desk.total), (1200, 0, 1200));
 }
 
 #[test]
@@ -195,7 +212,7 @@ fn clocks() {
     let mut desk = family(0);
     refuses(&desk, kernel(GAP_MAX + 1, -6, 0), 2);
     play(&mut desk, [(kernel(GAP_MAX, -6, 0), "0 on 0 2147483647 - - 0 0")]);
-    let mut desk = Desk::fresh(u32::MAX, ZERO, ALL).unwrap();
+    let mut desk = Desk::fresh(u32::MAX, ZERO, ALL, 1).unwrap();
     play(&mut desk, [(kernel(4, -6, 0), "0 on 0 5 - - 0 0")]);
     // The gap of a refused event is part of the next one's.
     let mut desk = family(0);
@@ -208,7 +225,7 @@ fn clocks() {
             (kernel(31, -6, 0), "0 on 0 11 - - 0 0"),
         ],
     );
-    assert_eq!((desk.idle, desk.total), (20, 31));
+    assert_eq!((desk.processors[0].idle, desk.total), (20, 31));
 }
 
 #[test]
@@ -329,7 +346,7 @@ fn killers_that_survive() {
             (kernel(10, -10, 0), "0 run 1 - - - 0 0"),
         ],
     );
-    assert_eq!((desk.running, &desk.ready), (Some(1), &VecDeque::from([4, 0])));
+    assert_eq!((desk.running_at(0), &desk.ready), (Some(1), &VecDeque::from([4, 0])));
     // Nobody else is ready: the killer runs again, also where others wait.
     let mut desk = family(2);
     play(
@@ -356,11 +373,11 @@ fn killers_that_survive() {
 /// A living id that may not be named: −1, nobody ends, and the caller carries on.
 #[track_caller]
 fn hands_off(desk: &Desk, ids: &[u32]) {
-    let caller = desk.running.unwrap();
+    let caller = desk.running_at(0).unwrap();
     for &id in ids {
         let mut after = desk.clone();
         assert!(desk.find(id).is_some());
-        assert_eq!(say(&mut after, kernel(0, -2, id)), format!("0 on {caller} -1 - - 0 0"), "id {id}");
+        assert_eq!(say(&mut after, kernel(0, -2, id)), format!("0 on {caller} -1 - - 0 0 0"), "id {id}");
         assert_eq!(&after, desk);
     }
 }
@@ -377,7 +394,7 @@ fn customers() -> Desk {
         }
         children.into_iter().for_each(|customer| assert!(desk.event(&names(customer)).newborn.is_some()));
     }
-    assert_eq!((desk.running, &desk.ready), (Some(5), &VecDeque::from([6, 1, 7, 2, 3, 4, 0, 8])));
+    assert_eq!((desk.running_at(0), &desk.ready), (Some(5), &VecDeque::from([6, 1, 7, 2, 3, 4, 0, 8])));
     desk
 }
 
@@ -511,18 +528,177 @@ fn refusals_in_order() {
     refuses(&halted, interrupt(0, 2, 0, 0), 1);
 }
 
+/// Id 1 runs on processor 0, and id 2, its child, on processor 1.
+fn both_run(processors: u8) -> Desk {
+    let mut desk = several(processors);
+    play(
+        &mut desk,
+        [(kernel(10, -1, 0), "0 on 0 2 1 - 0 0"), (at(1, interrupt(30, 2, 0, 0)), "0 run 1 - - - 0 0")],
+    );
+    desk
+}
+
+#[test]
+fn processors_of_their_own() {
+    // "Id 1 starts on processor 0, all clocks at the start's": the others are idle from then on.
+    let mut desk = Desk::fresh(1000, ZERO, ALL, 3).unwrap();
+    refuses(&desk, at(1, kernel(1010, -6, 0)), 4);
+    refuses(&desk, at(2, exception(1010, 0)), 4);
+    refuses(&desk, at(2, interrupt(1010, 1, 0, 0)), 4);
+    refuses(&desk, at(1, interrupt(999, 2, 0, 0)), 2);
+    play(
+        &mut desk,
+        [
+            (kernel(1500, -1, 0), "0 on 0 2 1 - 0 0"),
+            // Its clock may be behind another's, and not behind its own.
+            (at(1, interrupt(1030, 2, 0, 0)), "0 run 1 - - - 0 0"),
+            (at(1, kernel(1029, -6, 0)), "2 none - - - - 0 0"),
+            (kernel(1499, -6, 0), "2 none - - - - 0 0"),
+            (at(1, kernel(1035, -6, 0)), "0 on 1 5 - - 0 0"),
+            (kernel(1501, -6, 0), "0 on 0 501 - - 0 0"),
+            (at(2, interrupt(1000, 2, 0, 0)), "0 wait - - - - 0 0"),
+        ],
+    );
+    let idle: Vec<u64> = desk.processors.iter().map(|processor| processor.idle).collect();
+    assert_eq!((idle, desk.total), (vec![0, 30, 0], 536));
+    // "3 of all gaps together": exactly 2 to the 62 is allowed.
+    desk.total = TOTAL_MAX - 9;
+    refuses(&desk, at(1, kernel(1045, -6, 0)), 3);
+    refuses(&desk, at(2, interrupt(1010, 2, 0, 0)), 3);
+    refuses(&desk, at(2, kernel(1010, -6, 0)), 3);
+    assert_eq!(desk.event(&at(2, interrupt(1009, 2, 0, 0))).refusal, None);
+}
+
+#[test]
+fn processors_out_of_range() {
+    // "refused with 7, after 1", and before 5, 6, 2, 3, 4
+    for processors in 1..=PROCESSORS as u8 {
+        let desk = several(processors);
+        for number in [processors, 8, 9, 128, 255] {
+            for clock in [0, u32::MAX] {
+                refuses(&desk, at(number, kernel(clock, -6, 0)), 7);
+                refuses(&desk, at(number, interrupt(clock, 0, 0, 0)), 7);
+                refuses(&desk, at(number, exception(clock, 8)), 7);
+            }
+            let mut halted = desk.clone();
+            play(&mut halted, [(kernel(0, -2, 0), "0 halt - - - - 0 1")]);
+            refuses(&halted, at(number, kernel(0, -6, 0)), 1);
+        }
+    }
+}
+
+#[test]
+fn shared_lines() {
+    // "a processor waits also when another is running somebody; panic needs that nobody runs anywhere"
+    let mut desk = both_run(2);
+    play(
+        &mut desk,
+        [(kernel(40, -3, 0), "0 wait - - - - 0 0"), (at(1, kernel(40, -3, 1)), "0 panic - - - - 0 0")],
+    );
+    for number in [0, 1, 2] {
+        refuses(&desk, at(number, interrupt(50, 2, 0, 0)), 1);
+    }
+    // "A wake on one processor doesn't start an idle one; an interrupt of lines 2 to 7 there does."
+    let mut desk = both_run(3);
+    play(
+        &mut desk,
+        [
+            (kernel(40, -3, 0), "0 wait - - - - 0 0"),
+            (at(1, kernel(50, -4, 0)), "0 on 1 - - - 1 0"),
+            (kernel(60, -6, 0), "4 none - - - - 0 0"),
+            (at(1, interrupt(60, 2, 0, 0)), "0 on 1 - - - 0 0"),
+            (at(2, interrupt(70, 4, 8, 0)), "0 run 0 - - 11 0 0"),
+            (at(2, kernel(75, -6, 0)), "0 on 0 45 - - 0 0"),
+            (interrupt(80, 7, 1, 0), "0 wait - - - 32 0 0"),
+        ],
+    );
+    // A tick on an idle processor wakes two, and runs the first there.
+    let mut desk = both_run(2);
+    play(
+        &mut desk,
+        [
+            (kernel(40, -7, 0), "0 wait - - - - 0 0"),
+            (at(1, kernel(40, -7, 0)), "0 wait - - - - 0 0"),
+            (at(1, interrupt(41, 2, 0, 0)), "0 run 0 - - - 3 0"),
+            (interrupt(42, 2, 0, 0), "0 run 1 - - - 0 0"),
+        ],
+    );
+}
+
+#[test]
+fn kills_elsewhere() {
+    // "leaves that one idle and names it": it starts nobody, though the killer is ready.
+    let mut desk = both_run(2);
+    play(
+        &mut desk,
+        [(at(1, kernel(32, -6, 0)), "0 on 1 2 - - 0 0"), (kernel(35, -1, 0), "0 on 0 3 2 - 0 0")],
+    );
+    leaves(&mut desk, kernel(40, -2, 2), "0 run 2 0 - - 0 2", 2);
+    assert_eq!((desk.ready.clone(), desk.running_at(1)), (VecDeque::from([0]), None));
+    refuses(&desk, at(1, kernel(50, -6, 0)), 4);
+    // "a gap during which such a kill came is wholly idle": from 32 to 60, beside the first 30.
+    play(&mut desk, [(at(1, interrupt(60, 2, 0, 0)), "0 run 0 - - - 0 0")]);
+    assert_eq!((desk.processors[1].idle, desk.ended_time, desk.total), (58, 2, 100));
+    // Dying of a trap, and beside halt; a child's kill of its parent doesn't name its own processor.
+    leaves(&mut both_run(2), exception(40, 0), "0 halt - - - - 0 3", 2);
+    leaves(&mut both_run(2), at(1, kernel(40, -2, 1)), "0 halt - - - - 0 3", 1);
+    // Two at once: id 3, id 2's child, runs on processor 7 of eight.
+    let mut desk = both_run(8);
+    play(
+        &mut desk,
+        [
+            (at(1, kernel(31, -1, 0)), "0 on 1 3 2 - 0 0"),
+            (at(7, interrupt(32, 2, 0, 0)), "0 run 2 - - - 0 0"),
+        ],
+    );
+    leaves(&mut desk, kernel(40, -2, 2), "0 run 0 0 - - 0 6", 128 + 2);
+    // One in a line ends: no processor is named.
+    let mut desk = both_run(2);
+    play(
+        &mut desk,
+        [
+            (at(1, kernel(40, -5, 3)), "0 wait - - - 3 0 0"),
+            (kernel(50, -2, 2), "0 run 0 0 - - 0 2"),
+            (at(1, interrupt(60, 3, 8, 0)), "0 wait - - - 3 0 0"),
+        ],
+    );
+    // "hands off": whoever runs elsewhere runs on.
+    let mut desk = Desk::fresh(0, ZERO, [2, 2, 2, 0, 0, 0, 0, 0, 0], 3).unwrap();
+    play(
+        &mut desk,
+        [
+            (names(1), "0 on 0 2 1 - 0 0"),
+            (names(2), "0 on 0 3 2 - 0 0"),
+            (at(1, interrupt(0, 2, 0, 0)), "0 run 1 - - - 0 0"),
+            (at(2, interrupt(0, 2, 0, 0)), "0 run 2 - - - 0 0"),
+            (at(1, kernel(0, -2, 3)), "0 on 1 -1 - - 0 0"),
+            (at(2, kernel(0, -2, 1)), "0 on 2 -1 - - 0 0"),
+            (at(2, kernel(5, -6, 0)), "0 on 2 5 - - 0 0"),
+        ],
+    );
+}
+
 #[test]
 fn refused_starts() {
     let (too_large, bad) = (Err(StartRefusal::ValueTooLarge), Err(StartRefusal::BadCeilings));
+    // "0 or above 8 is refused with 29, after 27"
+    for processors in [0, 9, 128, 255] {
+        assert_eq!(Desk::fresh(9, ZERO, ALL, processors), Err(StartRefusal::BadProcessors));
+        assert_eq!(Desk::fresh(9, ZERO, [0; CUSTOMERS], processors), bad);
+        assert_eq!(Desk::fresh(9, [VALUE_MAX + 1; SEMAPHORES], [0; CUSTOMERS], processors), too_large);
+    }
+    for processors in 1..=8 {
+        assert!(Desk::fresh(9, ZERO, ALL, processors).is_ok());
+    }
     let mut values = ZERO;
     values[31] = VALUE_MAX;
-    assert!(Desk::fresh(9, values, ALL).is_ok());
+    assert!(Desk::fresh(9, values, ALL, 1).is_ok());
     values[31] += 1;
     // "refusal 27 after 24"
-    assert_eq!(Desk::fresh(9, values, ALL), too_large);
-    assert_eq!(Desk::fresh(9, values, [0; CUSTOMERS]), too_large);
+    assert_eq!(Desk::fresh(9, values, ALL, 1), too_large);
+    assert_eq!(Desk::fresh(9, values, [0; CUSTOMERS], 1), too_large);
     for allowed in [[1, 0, 0, 0, 0, 0, 0, 0, 0], [1, 0, 0, 0, 0, 0, 0, 0, 63], [8, 7, 7, 7, 7, 7, 7, 7, 7]] {
-        assert!(Desk::fresh(9, ZERO, allowed).is_ok());
+        assert!(Desk::fresh(9, ZERO, allowed, 1).is_ok());
     }
     for refused in [
         [0; CUSTOMERS],
@@ -536,10 +712,11 @@ fn refused_starts() {
         [32_768, 32_768, 0, 0, 0, 0, 0, 0, 0],
         [65_535; CUSTOMERS],
     ] {
-        assert_eq!(Desk::fresh(9, ZERO, refused), bad);
+        assert_eq!(Desk::fresh(9, ZERO, refused, 1), bad);
     }
     let desk = Desk::refused();
-    assert_eq!((desk.alive(), desk.last_id, desk.clock, desk.total), (0, 1, 0, 0));
+    assert_eq!(desk.processors.len(), 1);
+    assert_eq!((desk.alive(), desk.last_id, desk.processors[0].clock, desk.total), (0, 1, 0, 0));
     assert_eq!(desk.ceilings, [1, 0, 0, 0, 0, 0, 0, 0, 0]);
     refuses(&desk, interrupt(0, 2, 0, 0), 1);
 }
@@ -553,19 +730,20 @@ fn tables_stay_in_order() {
         let mut desk = log.start.desk();
         for event in log.events {
             let before = desk.clone();
-            let answer = desk.event(&event.unwrap());
+            let event = event.unwrap();
+            let answer = desk.event(&event);
             in_order(&desk);
-            own_family_ends(&before, &answer);
+            own_family_ends(&before, &event, &answer);
+            left_idle(&before, &event, &answer, &desk);
             assert_eq!(desk.ceilings, log.start.ceilings);
         }
     }
 }
 
 /// While another than customer 0 runs, only that process and those below it end, all its customer's.
-fn own_family_ends(before: &Desk, answer: &Answer) {
-    let Some(running) =
-        before.running.map(|slot| before.process(slot)).filter(|running| running.customer != 0)
-    else {
+fn own_family_ends(before: &Desk, event: &Event, answer: &Answer) {
+    let running = before.running_at(event.processor).map(|slot| before.process(slot));
+    let Some(running) = running.filter(|running| running.customer != 0) else {
         return;
     };
     for slot in (0..SLOTS).filter(|slot| answer.ended >> slot & 1 == 1) {
@@ -575,10 +753,28 @@ fn own_family_ends(before: &Desk, answer: &Answer) {
     }
 }
 
+/// The mask names the other processors whose process ended, and nothing else changes there: not
+/// who runs, not the clock, not the idle time.
+fn left_idle(before: &Desk, event: &Event, answer: &Answer, after: &Desk) {
+    for (number, (was, is)) in before.processors.iter().zip(&after.processors).enumerate() {
+        let named = answer.left_idle >> number & 1 == 1;
+        if number == event.processor.into() {
+            assert!(!named);
+            continue;
+        }
+        let ended = was.running.is_some_and(|slot| answer.ended >> slot & 1 == 1);
+        assert_eq!(ended, named);
+        let running = was.running.filter(|_| !ended);
+        assert_eq!(*is, Processor { running, ..was.clone() });
+    }
+}
+
 fn in_order(desk: &Desk) {
     let times: u64 = desk.living().map(|process| process.time).sum();
-    assert_eq!(times + desk.idle + desk.ended_time, desk.total);
-    let mut places: Vec<(usize, Option<Line>)> = desk.running.iter().map(|&slot| (slot, None)).collect();
+    let idle: u64 = desk.processors.iter().map(|processor| processor.idle).sum();
+    assert_eq!(times + idle + desk.ended_time, desk.total);
+    // "running on exactly one processor": each slot stands in one place, or the numbers differ.
+    let mut places: Vec<(usize, Option<Line>)> = desk.runners().map(|slot| (slot, None)).collect();
     places.extend(desk.ready.iter().map(|&slot| (slot, Some(Line::Ready))));
     for (number, line) in desk.semaphores.iter().enumerate() {
         assert!(line.is_empty() || desk.values[number] == 0);
@@ -602,5 +798,8 @@ fn in_order(desk: &Desk) {
         assert!(desk.living_of(customer) <= desk.ceilings[customer].into());
     }
     assert!(desk.values.iter().all(|&value| value <= VALUE_MAX));
-    assert!(desk.ready.is_empty() || desk.running.is_some());
+    // On: somebody runs, or nobody is ready and somebody waits on a nucleus line.
+    let waits = desk.nucleus.iter().any(|line| !line.is_empty());
+    let runs = desk.runners().next().is_some();
+    assert_eq!(desk.over, !(runs || desk.ready.is_empty() && waits));
 }

@@ -4,16 +4,21 @@ use super::*;
 use crate::desk::VALUE_MAX;
 use crate::{damage, generate};
 
-const START: Start = Start { clock: 0, values: [0; SEMAPHORES], ceilings: [3, 15, 0, 0, 0, 0, 0, 0, 2] };
+const START: Start =
+    Start { clock: 0, values: [0; SEMAPHORES], ceilings: [3, 15, 0, 0, 0, 0, 0, 0, 2], processors: 4 };
+
+fn at(processor: u8, clock: u32, kind: Kind) -> Vec<u8> {
+    Event { clock, processor, kind }.to_field()
+}
 
 fn tick(clock: u32) -> Vec<u8> {
-    Event { clock, kind: Kind::Interrupt(Interrupt { line: 2, first: 0, second: 0 }) }.to_field()
+    at(0, clock, Kind::Interrupt(Interrupt { line: 2, first: 0, second: 0 }))
 }
 
 fn call(mode: u8) -> Vec<u8> {
     let call = Call { mode: Mode::Kernel, a0: -6, a1: 1, a2: 2, a3: 3 };
-    let mut field = Event { clock: 5, kind: Kind::Call(call) }.to_field();
-    field[HEAD + 4] = mode;
+    let mut field = at(0, 5, Kind::Call(call));
+    field[HEAD + 5] = mode;
     field
 }
 
@@ -36,8 +41,8 @@ fn places(field: &[u8]) -> [String; 3] {
 
 #[track_caller]
 fn refused(field: &[u8], first: u8, middle: u8, last: u8) {
-    let one = "1 0 on 0 - - - 0 0\n";
-    let two = "2 0 on 0 - - - 0 0\n";
+    let one = "1 0 on 0 - - - 0 0 0\n";
+    let two = "2 0 on 0 - - - 0 0 0\n";
     let expected =
         [format!("log 0 {first}\n"), format!("{one}log 2 {middle}\n"), format!("{one}{two}log 3 {last}\n")];
     assert_eq!(places(field), expected);
@@ -45,15 +50,15 @@ fn refused(field: &[u8], first: u8, middle: u8, last: u8) {
 
 #[test]
 fn layout() {
-    assert_eq!(call(1), [2, 21, 0, 5, 0, 0, 0, 1, 250, 255, 255, 255, 1, 0, 0, 0, 2, 0, 0, 0, 3, 0, 0, 0]);
-    assert_eq!(tick(258), [3, 7, 0, 2, 1, 0, 0, 2, 0, 0]);
-    assert_eq!(Event { clock: 1, kind: Kind::Exception { code: 9 } }.to_field(), [4, 5, 0, 1, 0, 0, 0, 9]);
+    assert_eq!(call(1), [2, 22, 0, 5, 0, 0, 0, 0, 1, 250, 255, 255, 255, 1, 0, 0, 0, 2, 0, 0, 0, 3, 0, 0, 0]);
+    assert_eq!(tick(258), [3, 8, 0, 2, 1, 0, 0, 0, 2, 0, 0]);
+    assert_eq!(at(6, 1, Kind::Exception { code: 9 }), [4, 6, 0, 1, 0, 0, 0, 6, 9]);
     let start = START.to_field();
-    assert_eq!((start.len(), &start[..3]), (153, &[1, 150, 0][..]));
-    assert_eq!(start[135..], [3, 0, 15, 0, 0, 0, 0, 0, 0, 0, 0, 0, 0, 0, 0, 0, 2, 0]);
+    assert_eq!((start.len(), &start[..3]), (154, &[1, 151, 0][..]));
+    assert_eq!(start[135..], [3, 0, 15, 0, 0, 0, 0, 0, 0, 0, 0, 0, 0, 0, 0, 0, 2, 0, 4]);
     assert_eq!(lines(&START.to_field()), "");
-    assert_eq!(lines(&[START.to_field(), call(1)].concat()), "1 0 on 0 5 - - 0 0\n");
-    assert_eq!(lines(&[START.to_field(), call(0)].concat()), "1 0 halt - - - - 0 1\n");
+    assert_eq!(lines(&[START.to_field(), call(1)].concat()), "1 0 on 0 5 - - 0 0 0\n");
+    assert_eq!(lines(&[START.to_field(), call(0)].concat()), "1 0 halt - - - - 0 1 0\n");
 }
 
 #[test]
@@ -65,7 +70,7 @@ fn unknown_tags_and_lengths() {
         // An unknown tag is seen before its length and its end.
         refused(&[tag, 255, 255], 21, 21, 21);
     }
-    for (at, byte) in [(1, 6), (1, 8), (1, 0), (2, 1), (2, 255)] {
+    for (at, byte) in [(1, 7), (1, 9), (1, 0), (2, 1), (2, 255)] {
         let mut field = tick(2);
         field[at] = byte;
         refused(&field, 22, 22, 22);
@@ -80,7 +85,7 @@ fn cut_short() {
         for length in 1..field.len() {
             let log = &field[..length];
             assert_eq!(lines(log), "log 0 20\n");
-            assert_eq!(lines(&[&start[..], &tick(1), log].concat()), "1 0 on 0 - - - 0 0\nlog 2 20\n");
+            assert_eq!(lines(&[&start[..], &tick(1), log].concat()), "1 0 on 0 - - - 0 0 0\nlog 2 20\n");
         }
     }
 }
@@ -95,7 +100,7 @@ fn order_values_and_modes() {
     for number in [0, 16, 31] {
         start.values[number] = VALUE_MAX;
         assert_eq!(lines(&start.to_field()), "");
-        assert_eq!(places(&start.to_field())[1], "1 0 on 0 - - - 0 0\nlog 2 23\n");
+        assert_eq!(places(&start.to_field())[1], "1 0 on 0 - - - 0 0 0\nlog 2 23\n");
         start.values[number] += 1;
         refused(&start.to_field(), 24, 23, 23);
         start.values = [0; SEMAPHORES];
@@ -118,12 +123,33 @@ fn ceilings() {
         refused_start(&start, 24);
     }
     assert_eq!(lines(&with([1, 0, 0, 0, 0, 0, 0, 0, 63]).to_field()), "");
-    // A start without ceilings: with the new length, and with its own.
-    let mut start = START.to_field();
-    start.truncate(135);
-    assert_eq!(lines(&start), "log 0 20\n");
-    start[1] = 132;
-    refused(&start, 22, 22, 22);
+    // A start without processors, or without ceilings too: with the new length, and with its own.
+    for (end, length) in [(153, 150), (135, 132)] {
+        let mut start = START.to_field();
+        start.truncate(end);
+        assert_eq!(lines(&start), "log 0 20\n");
+        start[1] = length;
+        refused(&start, 22, 22, 22);
+    }
+}
+
+#[test]
+fn processors() {
+    // "0 or above 8 is refused with 29, after 27 wherever that is"
+    for processors in [0, 9, 255] {
+        let start = Start { processors, ..START };
+        refused_start(&start, 29);
+        refused_start(&Start { ceilings: [0; CUSTOMERS], ..start }, 27);
+        refused_start(&Start { values: [VALUE_MAX + 1; SEMAPHORES], ..start }, 24);
+    }
+    for processors in 1..=8 {
+        assert_eq!(lines(&Start { processors, ..START }.to_field()), "");
+    }
+    // An out-of-range byte is the desk's 7, and the reading goes on.
+    let tick_at = |processor| at(processor, 1, Kind::Interrupt(Interrupt { line: 2, first: 0, second: 0 }));
+    let log = [START.to_field(), tick_at(3), tick_at(4), tick_at(255), tick_at(0)].concat();
+    let seven = "7 none - - - - 0 0 0";
+    assert_eq!(lines(&log), format!("1 0 wait - - - - 0 0 0\n2 {seven}\n3 {seven}\n4 0 on 0 - - - 0 0 0\n"));
 }
 
 #[track_caller]
@@ -134,11 +160,11 @@ fn refused_start(start: &Start, number: u8) {
 #[test]
 fn empty_and_long() {
     assert_eq!(lines(&[]), "log 0 23\n");
-    let mut long = [START.to_field(), tick(1).repeat(6538)].concat();
+    let mut long = [START.to_field(), tick(1).repeat(5943)].concat();
     assert!(long.len() < MAX_BYTES);
-    assert_eq!(lines(&long).lines().count(), 6538);
+    assert_eq!(lines(&long).lines().count(), 5943);
     long.resize(MAX_BYTES, 3);
-    assert_eq!(lines(&long).lines().last(), Some("log 6539 22"));
+    assert_eq!(lines(&long).lines().last(), Some("log 5944 22"));
     long.push(3);
     assert_eq!(lines(&long), "log 0 26\n");
 }
@@ -146,13 +172,13 @@ fn empty_and_long() {
 #[test]
 fn reading_goes_on_after_halt() {
     let log = [START.to_field(), call(0), tick(1), call(2)].concat();
-    assert_eq!(lines(&log), "1 0 halt - - - - 0 1\n2 1 none - - - - 0 0\nlog 3 25\n");
+    assert_eq!(lines(&log), "1 0 halt - - - - 0 1 0\n2 1 none - - - - 0 0 0\nlog 3 25\n");
 }
 
 #[test]
 fn generated_logs_fit() {
     let log = generate::log(1, 5000);
-    assert!(log.len() <= MAX_BYTES && log.len() > MAX_BYTES - 24);
+    assert!(log.len() <= MAX_BYTES && log.len() > MAX_BYTES - 25);
     assert!(open(&log).unwrap().events.all(|event| event.is_ok()));
     assert_eq!(log, generate::log(1, 5000));
     assert_ne!(damage::log(1, 400), generate::log(1, 400));

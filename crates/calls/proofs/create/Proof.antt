@@ -1,5 +1,5 @@
 -- `create` meets its contract.
-use mathlib.Core.Path.{_≡_, sym, _∙_}
+use mathlib.Core.Path.{_≡_, sym, ap, _∙_, subst}
 use mathlib.Core.Bool.{false}
 use Prim.Native.Nat.{_<_}
 use native.Mathlib.Omega.{arith}
@@ -7,8 +7,16 @@ use borrow.Author.Needs.{needs}
 use Rattle.rules.specs.Numbers.{base-slots, base-customers}
 use Rattle.lines.specs.Lines.{first-where, is-zero}
 use Rattle.lines.specs.declared.Found.the-variants.{At}
+use Rattle.rules.specs.declared.Result.{Result}
+use Rattle.rules.specs.declared.Answer.{Answer}
+use Rattle.rules.specs.Rules.{carry-on}
+use Rattle.answers.specs.Parts.{newborn-told}
+use Rattle.tables.specs.declared.Tables.{Tables}
+use Rattle.tables.specs.View.{row, view}
+use Rattle.tables.specs.Contracts.{Comes}
+use Rattle.tables.proofs.Choosing.{comes-by}
 use Rattle.tables.proofs.Seats.{room-beside}
-use Rattle.calls.proofs.Newborns.{bit-fits}
+use Rattle.calls.proofs.Newborns.{born-with, born, bit-fits}
 use Rattle.calls.proofs.Creating.{at-its-ceiling, child, found-slot, found-free, create-ids, create-ceiling, create-customer, create-slots, create-shape, create-born}
 use Rattle.calls.proofs.create.Statement.{statement}
 use Rattle.calls.proofs.create.Tie as tie
@@ -287,9 +295,17 @@ returns-4 c =
     let e = k .before .before .before .before in
     let at = e .before in
     let st = start at in
-    rw (create-born (st .args .t1) (st .pre .0) (st .args .a2) (st .args .a3) (below e) (at .before .before .before .before .before .before .before .if1 .left) (st .pre .1) (k .before .s .given .0 .0) (found k))
-    (rw (c .before .bears .ensures, c .before .before .says .ensures, c .before .before .before .power .ensures, c .before .before .before .before .push .ensures .0, c .before .before .before .before .push .ensures .1, at .before .before .before .before .before .child-of .ensures) at
-    (c .carries-on .ensures))
+    let m = st .args .t1 in
+    let s = k .before .s .given .0 .0 in
+    let pushed = c .before .before .before .before .push .ensures in
+    let theirs = at .before .before .before .before .before .child-of .ensures in
+    let told = c .before .bears .ensures ∙ ap (λ (z : Result). newborn-told z s) (c .before .before .says .ensures) in
+    comes-by _ _ (c .carries-on .result)
+    (create-born m (st .pre .0) (st .args .a2) (st .args .a3) (below e) (at .before .before .before .before .before .before .before .if1 .left) (st .pre .1) s (found k))
+    (subst (λ (x : Answer). Comes (carry-on (row (born m s (child m (st .args .a2)) (st .args .a2) (st .args .a3)) (m .running)) x (view (born m s (child m (st .args .a2)) (st .args .a2) (st .args .a3)))) (c .carries-on .result)) told
+    (subst (λ (t : Tables). Comes (carry-on (row t (m .running)) (c .before .bears .result) (view t)) (c .carries-on .result))
+    (λ i. born-with m s (c .before .before .before .power .ensures i) (theirs i) (st .args .a2) (st .args .a3) (pushed .0 i) (pushed .1 i))
+    (c .carries-on .ensures)))
 
 pub create-spec : {M : Type 1} → statement M
 create-spec =

@@ -1,6 +1,11 @@
 -- `Tables::kill` meets its contract.
-use mathlib.Core.Path.{sym, subst}
-use Prim.Native.Nat.{_+_, _-_}
+use mathlib.Core.Path.{sym, subst, ap, _∙_}
+use mathlib.Core.Bool.{Bool}
+use mathlib.Core.List.{List}
+use Prim.Native.Nat.{_+_, _-_, _^_}
+use Rattle.rules.specs.Words.{if_then_else_}
+use Rattle.rules.specs.Numbers.{most-processors}
+use Rattle.lines.specs.Lines.{marked, tally, struck}
 use native.Mathlib.Omega.{arith}
 use borrow.Author.Needs.{needs}
 use Rattle.tables.specs.Contracts.{Kills}
@@ -69,6 +74,25 @@ before-doomed12 c = c .before .before
 
 abbrev before-drop-marked2 : tie.After-drop-marked2 → tie.After-drop-marked
 before-drop-marked2 c = c .before .before .before
+
+-- from behind the second drop to where the function starts
+abbrev from-drop-marked2 : tie.After-drop-marked2 → tie.Start
+from-drop-marked2 c = from-strike2 (before-strike3 (before-strike-times (before-strike-bytes3 (before-drop-marked (before-drop-marked2 c)))))
+
+abbrev before-doomed13 : tie.After-doomed13 → tie.After-drop-marked2
+before-doomed13 c = c .before .before .before
+
+abbrev before-leaving : tie.After-leaving → tie.After-drop-marked2
+before-leaving c = c .before .before .before .before
+
+abbrev before-mask2 : tie.After-mask2 → tie.After-leaving
+before-mask2 c = c .before .before
+
+abbrev before-left2 : tie.After-left2 → tie.After-mask2
+before-left2 c = c .before .before
+
+abbrev before-strike4 : tie.After-strike4 → tie.After-mask2
+before-strike4 c = c .before .before .before
 
 family-requires : tie.Need-family-requires
 family-requires c κs = search needs
@@ -156,9 +180,29 @@ drop-marked-requires-2 c κs =
     let l = st .pre .0 .waits-line in
     (l .room, l .long, l .slots)
 
+leaving-requires : tie.Need-leaving-requires
+leaving-requires c κs =
+    let at-drop-marked2 = before-doomed13 c in
+    let st = from-drop-marked2 at-drop-marked2 in
+    (st .pre .0 .runners-long, st .pre .0 .in-seats)
+
+mask-requires-2 : tie.Need-mask-requires-2
+mask-requires-2 c κs = search needs
+
+strike-requires-4 : tie.Need-strike-requires-4
+strike-requires-4 c κs =
+    let at-mask2 = before-left2 c in
+    let at-leaving = before-mask2 at-mask2 in
+    let at-drop-marked2 = before-leaving at-leaving in
+    let st = from-drop-marked2 at-drop-marked2 in
+    st .pre .0 .runners-long
+
 returns : tie.Need-returns
 returns c =
-    let at-drop-marked = before-drop-marked2 c in
+    let at-mask2 = before-strike4 c in
+    let at-leaving = before-mask2 at-mask2 in
+    let at-drop-marked2 = before-leaving at-leaving in
+    let at-drop-marked = before-drop-marked2 at-drop-marked2 in
     let at-strike-bytes3 = before-drop-marked at-drop-marked in
     let at-strike-times = before-strike-bytes3 at-strike-bytes3 in
     let at-strike3 = before-strike-times at-strike-times in
@@ -173,6 +217,9 @@ returns c =
     let st = before-family at-family in
     let f = at-family .family in
     let m = st .args .t1 in
+    let left = at-leaving .leaving in
+    let struck-there = c .strike4 .ensures ∙ ap (λ (ds : List Bool). struck ds (m .runners)) (left .ensures) in
+    let left-told = at-mask2 .mask2 .ensures ∙ ap (λ (ds : List Bool). tally (λ k. if marked ds k then 2 ^ k else 0) most-processors) (left .ensures) in
     subst (Kills (st .args .id) m)
     (λ i. record {
       tables = record {
@@ -186,8 +233,8 @@ returns c =
         lines = sym (at-strike-bytes3 .strike-bytes3 .ensures) i;
         ready = sym (at-drop-marked .drop-marked .ensures .1) i;
         nready = sym (at-drop-marked .drop-marked .ensures .0) i;
-        waits = sym (c .drop-marked2 .ensures .1) i;
-        nwaits = sym (c .drop-marked2 .ensures .0) i;
+        waits = sym (at-drop-marked2 .drop-marked2 .ensures .1) i;
+        nwaits = sym (at-drop-marked2 .drop-marked2 .ensures .0) i;
         running = sym (at-spared .spared .ensures) i;
         sems = m .sems;
         ceilings = m .ceilings;
@@ -197,8 +244,13 @@ returns c =
         total = m .total;
         idle = m .idle;
         ended = m .ended + sym (at-toll .toll .ensures) i;
+        runners = sym struck-there i;
+        lasts = m .lasts;
+        idles = m .idles;
+        processors = m .processors;
       };
       ended = sym (at-mask .mask .ensures) i;
+      idled = sym left-told i;
     })
     (kill-step m (st .pre .0) (st .args .id) (f .result) (f .ensures) (st .pre .1) (st .pre .2))
 
@@ -221,4 +273,7 @@ kill-spec =
     strike-bytes-requires-3
     drop-marked-requires
     drop-marked-requires-2
+    leaving-requires
+    mask-requires-2
+    strike-requires-4
     returns)

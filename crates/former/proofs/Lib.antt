@@ -1,0 +1,2 @@
+-- One processor gives the old answers.
+pub mod Same

@@ -1,0 +1,3 @@
+-- The rule book of one processor, as it stood before 02, (xiii).
+pub mod Former
+pub mod Grown

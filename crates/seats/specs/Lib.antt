@@ -1,0 +1,2 @@
+-- Seats in arrays.
+pub mod Seats
