@@ -185,11 +185,3 @@ module _ (v : Event) (k : Keeper) (h : Keeping k) (ys : List Row) where
           let p = passed v k (length ys) ys z in
           subst (λ (d : Lent). Keeping (d .turn .keeper)) (sym (rows-go v k ys z)) (keeping (step v (joined k ys) .pager) (keeps (joined k ys) (ruled k ys h (p .0) (p .1)) v))
       go (inr z) = subst (λ (d : Lent). Keeping (d .turn .keeper)) (sym (rows-stop v k ys z)) h
-
--- what is decided on a sheet obeys the rule too
-pub sheet-keeps : (v : Event) (k : Keeper) (s : Sheet) → Keeping k → length (s .rows) ≡ frames → Keeping (decided v k s .turn .keeper)
-sheet-keeps v k s h l = go (decide (verdict-of v k (s .count) (s .rows)) 0)
-  where
-    go : (verdict-of v k (s .count) (s .rows) ≡ 0) ⊎ (verdict-of v k (s .count) (s .rows) ≢ 0) → Keeping (decided v k s .turn .keeper)
-    go (inl z) = subst (λ (d : Decided). Keeping (d .turn .keeper)) (sym (sheet-goes v k s z)) (keeping (step v (joined k (s .rows)) .pager) (keeps (joined k (s .rows)) (ruled k (s .rows) h l (passed v k (s .count) (s .rows) z .1)) v))
-    go (inr z) = subst (λ (d : Decided). Keeping (d .turn .keeper)) (sym (sheet-stops v k s z)) h

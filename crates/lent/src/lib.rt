@@ -179,11 +179,3 @@ pub fn event(rows: &mut [Row], k: Keeper, v: Event) -> Kept
     write_rows(rows, d.sheet);
     d.turn
 }
-
-// The same by value, for whoever keeps the table as a sheet: what `event` makes of rows that read as this sheet.
-pub fn step(s: Sheet, k: Keeper, v: Event) -> Decided
-    requires { ⌜ Keeping k ⌝ }
-    ensures { λ r. ⌜ (r ≡ decided v k s) × Keeping (r .turn .keeper) ⌝ }
-{
-    decide(s, k, v)
-}

@@ -4,7 +4,7 @@
 -- first bad word.
 use mathlib.Core.Bool.{Bool, true, false}
 use mathlib.Core.List.{List, [], _∷_}
-use Prim.Native.Nat.{ℕ, _-_, _^_}
+use Prim.Native.Nat.{ℕ, _-_, _^_, _≤_}
 use lib.Dec.{eqb}
 use lib.ListN.{take, drop}
 use Rattle.rules.specs.Words.{if_then_else_}
@@ -50,6 +50,14 @@ any-byte = 2 ^ 8 - 1
 
 abbrev pub most-rows : ℕ
 most-rows = 64
+
+-- a length that is asked for is one that the table may have
+abbrev pub Sized : Ask → Type 0
+Sized Empty = Unit {0}
+Sized (Asked v) = Unit {0}
+Sized (Length n) = n ≤ most-rows
+Sized (Set f row) = Unit {0}
+Sized (Bad k e) = Unit {0}
 
 -- ── Lines ──
 

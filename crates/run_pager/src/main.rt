@@ -1,8 +1,10 @@
 // The program of the pager: a text of events on standard input, a line an event on standard output. First every line is
-// read; where
-// one is bad, that is told on standard error and nothing else is written. What it does is decided below it: it moves
-// bytes.
+// read; where one is bad, that is told on standard error and nothing else is written. What it does is decided below it:
+// it moves bytes.
 use console::Got;
+use lender::SwapTable;
+use lender::resized;
+use lender::with_row;
 use lent::Keeper;
 use libc::STDERR_FILENO;
 use libc::STDOUT_FILENO;
@@ -11,37 +13,36 @@ use pager_asks::Expected;
 use pager_asks::asked_by;
 use pager_text::write_answer;
 use pages::Answer;
-use pages::FRAMES;
-use pages::Row;
+use pages::Event;
 use pages::Word;
 use report::Written;
-use swap::Sheet;
-use swap::blank;
 use words::Line;
 use words::complain;
 use words::line_at;
 use words::word_at;
+ghost use mathlib.Core.Path.{_≡_};
 ghost use Prim.Native.Nat.{_≤_, _<_};
 ghost use lib.ListN.{length};
-ghost use Rattle.lent.specs.Lent.{Keeping};
+ghost use Rattle.pager_asks.specs.declared.Ask.the-variants.{Asked};
+ghost use Rattle.pager_asks.specs.Asks.{Sized};
+ghost use Rattle.run_pager.specs.Acts.{Standing, quiet, acted};
 
 // One byte more than a text may have.
 const ENOUGH: usize = 65537;
 
-// The table that is kept beside the pager, what the pager keeps, and its answer; 1 where there is one, else 0.
+// The table that is lent to the pager, what the pager keeps, and its answer; 1 where there is one, else 0.
 struct Acted {
-    sheet: Sheet,
+    table: SwapTable,
     keeper: Keeper,
     more: u32,
     answer: Answer,
 }
 
-fn silent(s: Sheet, k: Keeper) -> Acted
-    requires { ⌜ Keeping k ⌝ }
-    ensures { λ r. ⌜ Keeping (r .keeper) × (r .more ≤ 1) ⌝ }
+fn silent(t: SwapTable, k: Keeper) -> Acted
+    ensures { λ r. ⌜ r ≡ quiet t k ⌝ }
 {
     Acted {
-        sheet: s,
+        table: t,
         keeper: k,
         more: 0,
         answer: Answer {
@@ -51,56 +52,35 @@ fn silent(s: Sheet, k: Keeper) -> Acted
     }
 }
 
-// The table at another length: rows behind it are gone, and new ones are free.
-fn resized(s: Sheet, n: usize) -> Sheet {
-    let mut next = s;
-    let mut i: usize = 0;
-    while i < FRAMES {
-        if n <= i {
-            next.rows[i] = Row { owner: 0, page: 0 };
-        }
-        i = i + 1;
+// The pager's answer to an event, over the table that it is lent.
+fn asked(t: SwapTable, k: Keeper, v: Event) -> Acted
+    requires { ⌜ Standing t k ⌝ }
+    ensures { λ r. ⌜ r ≡ acted (Asked v) t k ⌝ }
+{
+    let done = lender::event(t, k, v);
+    let turn = done.turn;
+    let table = done.table;
+    let keeper = turn.keeper;
+    let answer = turn.answer;
+    Acted {
+        table: table,
+        keeper: keeper,
+        more: 1,
+        answer: answer,
     }
-    next.count = n;
-    next
 }
 
-// One row set, where the table has it. A row behind the sixteenth is in no table that is taken.
-fn with_row_at(s: Sheet, f: usize, row: Row) -> Sheet {
-    let n = s.count;
-    let mut next = s;
-    if n <= f {
-        return next;
-    }
-    if FRAMES <= f {
-        return next;
-    }
-    next.rows[f] = row;
-    next
-}
-
-fn act(s: Sheet, k: Keeper, ask: Ask) -> Acted
-    requires { ⌜ Keeping k ⌝ }
-    ensures { λ r. ⌜ Keeping (r .keeper) × (r .more ≤ 1) ⌝ }
+// What a line asks is done.
+fn act(t: SwapTable, k: Keeper, ask: Ask) -> Acted
+    requires { ⌜ Standing t k × Sized ask ⌝ }
+    ensures { λ r. ⌜ (r ≡ acted ask t k) × Standing (r .table) (r .keeper) × (r .more ≤ 1) ⌝ }
 {
     match ask {
-        Ask::Empty => silent(s, k),
-        Ask::Asked(v) => {
-            let d = lent::step(s, k, v);
-            let turn = d.turn;
-            let sheet = d.sheet;
-            let keeper = turn.keeper;
-            let answer = turn.answer;
-            Acted {
-                sheet: sheet,
-                keeper: keeper,
-                more: 1,
-                answer: answer,
-            }
-        }
-        Ask::Length(n) => silent(resized(s, n), k),
-        Ask::Set(f, row) => silent(with_row_at(s, f, row), k),
-        Ask::Bad(_, _) => silent(s, k),
+        Ask::Empty => silent(t, k),
+        Ask::Asked(v) => asked(t, k, v),
+        Ask::Length(n) => silent(resized(t, n), k),
+        Ask::Set(f, row) => silent(with_row(t, f, row), k),
+        Ask::Bad(_, _) => silent(t, k),
     }
 }
 
@@ -142,8 +122,7 @@ fn line_in(text: &[u8], at: usize) -> Line
 fn run(text: &[u8]) -> bool
     requires { ⌜ length (now text) < 65537 ⌝ }
 {
-    let mut s = blank();
-    s = resized(s, FRAMES);
+    let mut t = lender::fresh();
     let mut k = lent::fresh();
     let mut number: u32 = 0;
     let mut at: usize = 0;
@@ -151,14 +130,14 @@ fn run(text: &[u8]) -> bool
         let line = line_in(text, at);
         let end = line.end;
         let ask = asked_by(&text[at..end]);
-        let done = act(s, k, ask);
+        let done = act(t, k, ask);
         let answer = done.answer;
         let more = done.more;
         number = number + more;
         if !told(more, number, answer) {
             return false;
         }
-        s = done.sheet;
+        t = done.table;
         k = done.keeper;
         at = line.next;
     }

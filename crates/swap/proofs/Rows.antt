@@ -47,7 +47,7 @@ abbrev pub sheet-at : List Row → ℕ → Sheet
 sheet-at l i = record { rows = fill frames (take i l); count = i }
 
 -- one row more is filled in, for any number of places
-filled : (n : ℕ) (l : List Row) (i : ℕ) → i < length l → set (fill n (take i l)) i (getD l i free) ≡ fill n (take (suc i) l)
+pub filled : (n : ℕ) (l : List Row) (i : ℕ) → i < length l → set (fill n (take i l)) i (getD l i free) ≡ fill n (take (suc i) l)
 unfolding fill
 filled n [] i h = absurd (not-suc-le-zero h)
 filled zero (x ∷ l) i h = refl

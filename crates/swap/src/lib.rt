@@ -107,7 +107,7 @@ pub fn write_rows(rows: &mut [Row], s: Sheet)
     let n = up_to_16(rows.len());
     let mut i: usize = 0;
     while i < n {
-        rows[i] = row_of(s, i);
+        set_row(rows, i, row_of(s, i));
         i = i + 1;
     }
 }

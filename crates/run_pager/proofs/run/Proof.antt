@@ -1,7 +1,8 @@
 use Prim.Native.Nat.{_-_, _≤_, _<_}
 use lib.ListN.{length}
-use Rattle.lent.specs.Lent.{Keeping}
-use Rattle.lent.proofs.Laws.{fresh-keeping}
+use Rattle.run_pager.specs.Acts.{Standing}
+use Rattle.pager_asks.proofs.Lengths.{sized}
+use Rattle.run_pager.proofs.Acts.{fresh-stands}
 use borrow.Author.Needs.{needs}
 use Rattle.run_pager.proofs.run.Statement.{statement}
 use Rattle.run_pager.proofs.run.Tie as tie
@@ -11,27 +12,23 @@ use Rattle.lent.proofs.fresh.Reads as fresh-reads
 use Rattle.pager_asks.proofs.asked_by.Reads as asked-by-reads
 use Rattle.run_pager.proofs.act.Reads as act-reads
 use Rattle.run_pager.proofs.line_in.Reads as line-in-reads
-use Rattle.run_pager.proofs.resized.Reads as resized-reads
 use Rattle.run_pager.proofs.told.Reads as told-reads
-use Rattle.swap.proofs.blank.Reads as blank-reads
+use Rattle.lender.proofs.fresh.Reads as fresh-reads-2
 
 abbrev Inv-loop : tie.InvT-loop
-Inv-loop text s₀ k₀ number₀ at₀ s k number at = Keeping k × (number ≤ at) × (at ≤ length text) × (length text < 65537)
+Inv-loop text t₀ k₀ number₀ at₀ t k number at = Standing t k × (number ≤ at) × (at ≤ length text) × (length text < 65537)
 
 abbrev μ-loop : tie.MeasureT-loop
-μ-loop text s₀ k₀ number₀ at₀ s k number at = length text - at
-
-blank-requires : tie.Need-blank-requires Inv-loop μ-loop
-blank-requires c κs = search needs
-
-resized-requires : tie.Need-resized-requires Inv-loop μ-loop
-resized-requires c κs = search needs
+μ-loop text t₀ k₀ number₀ at₀ t k number at = length text - at
 
 fresh-requires : tie.Need-fresh-requires Inv-loop μ-loop
 fresh-requires c κs = search needs
 
+fresh-requires-2 : tie.Need-fresh-requires-2 Inv-loop μ-loop
+fresh-requires-2 c κs = search needs
+
 loop-holds : tie.Need-loop-holds Inv-loop μ-loop
-loop-holds c = (rw (c .fresh .ensures) fresh-keeping, search needs, search needs, search needs)
+loop-holds c = (rw (c .before .fresh .ensures, c .fresh2 .ensures) fresh-stands, search needs, search needs, search needs)
 
 line-in-requires : tie.Need-line-in-requires Inv-loop μ-loop
 line-in-requires c κs = search needs
@@ -49,7 +46,7 @@ asked-by-requires : tie.Need-asked-by-requires Inv-loop μ-loop
 asked-by-requires c κs = search needs
 
 act-requires : tie.Need-act-requires Inv-loop μ-loop
-act-requires c κs = search needs
+act-requires c κs = (c .before .before .before .before .loop .inv .0, rw (c .asked-by .ensures) (sized _))
 
 add-number : tie.Need-add-number Inv-loop μ-loop
 add-number c = search needs
@@ -75,9 +72,8 @@ run-spec =
     (tie.spec
     Inv-loop
     μ-loop
-    blank-requires
-    resized-requires
     fresh-requires
+    fresh-requires-2
     loop-holds
     line-in-requires
     sub-asked-by
