@@ -155,7 +155,7 @@ fn refused(sleepers: Sleepers, refusal: u8) -> Turn
 }
 
 // What follows, with nobody woken.
-fn answered(sleepers: Sleepers, follows: Follows) -> Turn
+pub fn answered(sleepers: Sleepers, follows: Follows) -> Turn
     requires { ⌜ Good sleepers ⌝ }
     ensures { λ r. ⌜ Comes (answered follows [] (view sleepers)) r ⌝ }
 {
