@@ -10,6 +10,8 @@ use crate::{damage, generate, line, log};
 use std::collections::BTreeMap;
 use std::ops::RangeInclusive;
 
+mod alarms;
+
 /// The seeds and the length of the logs that are compared at the gate. What comes up in them is
 /// stated, and checked, in the tests below.
 pub const SEEDS: RangeInclusive<u64> = 1..=400;
@@ -75,6 +77,20 @@ const NAMES: &[(&str, &[&str])] = &[
     ("death", &["alone", "with descendants"]),
     ("table", &["the last slot woken", "the last slot ended", "more than 20 woken", "more than 20 ended"]),
     ("table", &["all slots taken", "a newborn with more than 20 ancestors"]),
+    ("priority", &["0", "1", "2", "255", "256", "257", "513"]),
+    ("priority", &["another high one", "another low one", "high, and a2 / 256 above 8"]),
+    ("alarms", &["high chosen before a few low ones", "high chosen before eight low ones or more"]),
+    ("alarms", &["high chosen, the low line empty", "low chosen, the high line empty"]),
+    ("alarms", &["low chosen after four, high ones ready", "low chosen after four, the high line empty"]),
+    ("alarms", &["no low one left, four counted", "a low one ended, four counted"]),
+    ("alarms", &["both lines empty", "both lines empty, four counted", "one tick into both lines"]),
+    ("alarms", &["a high one woken, a low one carries on", "id 1's slice ends, a high one runs"]),
+    ("alarms", &["a high one yields, and runs again before low ones"]),
+    ("alarms", &["surviving high killer, low ones ready", "surviving high killer, a low one runs"]),
+    ("alarms", &["surviving low killer, a high one runs"]),
+    ("slip seen", &["three for four", "five for four", "kept after a low one", "nought after a wait"]),
+    ("slip seen", &["kept with the low line empty", "counted with the low line empty"]),
+    ("slip seen", &["one for each processor"]),
 ];
 
 /// A count for each name, those that never came up too.
@@ -117,6 +133,7 @@ impl Count {
         let (mut killer, mut spared) = (None, None);
         let mut denied = [false; CUSTOMERS];
         let mut killed = 0;
+        let mut slips = alarms::SLIPS;
         for event in events {
             match event {
                 Ok(event) => {
@@ -130,6 +147,8 @@ impl Count {
                     self.place(&mut denied, &before, &event, &answer);
                     self.processors(&before, &event, &answer, &desk);
                     self.killed(&mut killed, &event, &answer);
+                    self.alarms(&before, &event, &answer, &desk);
+                    self.slips(&mut slips, &event, &answer, &desk);
                 }
                 Err(refusal) => return self.add("log", refusal.reason as u8),
             }
@@ -445,7 +464,7 @@ impl Count {
         if let Some(named) = named {
             self.named(before, before.process(caller), before.process(named));
         }
-        let alone = before.ready.iter().all(|slot| answer.ended >> slot & 1 == 1);
+        let alone = before.ready.slots().all(|slot| answer.ended >> slot & 1 == 1);
         let name = match answer.result {
             Some(0) if alone => "another, nobody else ready",
             Some(0) => "another, others ready",
@@ -536,65 +555,65 @@ fn is_spared(before: &Desk, event: &Event, answer: &Answer) -> Option<usize> {
 mod tests {
     use super::*;
 
-    /// `generate --count 1..400` prints these and more: 105,575 events in 400 logs.
+    /// `generate --count 1..400` prints these and more: 105,271 events in 400 logs.
     const AT_THE_GATE: &[(&str, u64)] = &[
-        ("refusal: 0", 87_887),
-        ("refusal: 1", 2_690),
-        ("refusal: 2", 7_985),
-        ("refusal: 4", 2_679),
-        ("refusal: 5", 1_625),
-        ("refusal: 6", 1_007),
-        ("action: on", 44_179),
-        ("action: run", 30_269),
-        ("action: wait", 8_470),
-        ("action: halt", 19),
-        ("action: panic", 5),
-        ("action: up0", 698),
-        ("action: up1", 4_247),
-        ("terminate: another, others ready", 893),
-        ("terminate: another, nobody else ready", 195),
-        ("terminate: the killer's turn", 497),
-        ("terminate: hands off, others ready", 1_749),
-        ("terminate: hands off, nobody else ready", 190),
-        ("terminate: the spared one's turn", 379),
-        ("named by customer 0: itself", 117),
-        ("named by customer 0: a child", 250),
-        ("named by customer 0: a deeper descendant", 139),
-        ("named by customer 0: an ancestor", 76),
-        ("named by customer 0: a sibling", 144),
-        ("named by customer 0: a cousin", 146),
-        ("named by customer 0: another customer's", 92),
-        ("named by another: itself", 421),
-        ("named by another: a child", 242),
-        ("named by another: a deeper descendant", 75),
-        ("named by another: an ancestor", 239),
-        ("named by another: an ancestor of customer 0", 261),
-        ("named by another: a sibling", 469),
-        ("named by another: a cousin", 512),
-        ("named by another: another of customer 0", 124),
-        ("named by another: another customer's", 334),
-        ("create: customer 0 for itself", 7_356),
-        ("create: customer 0 for another", 3_333),
-        ("create: another, whatever a2 says", 4_635),
-        ("create: another, though a2 / 256 is above 8", 349),
-        ("create: beside a customer at its ceiling", 3_717),
-        ("create: the last place", 1_614),
-        ("create: a place given back", 873),
-        ("create: in the last slot", 96),
-        ("denied: customer 0 for itself", 861),
-        ("denied: customer 0 for another", 555),
-        ("denied: another for itself", 4_523),
-        ("denied: ceiling 0", 222),
-        ("denied: 9 to 255 named", 106),
-        ("denied: 256 or more named", 198),
-        ("denied: slots free", 5_190),
-        ("denied: no slot free", 971),
-        ("table: a newborn with more than 20 ancestors", 695),
-        ("table: all slots taken", 317),
-        ("table: more than 20 ended", 59),
-        ("table: more than 20 woken", 3),
-        ("table: the last slot ended", 32),
-        ("table: the last slot woken", 10),
+        ("refusal: 0", 89_968),
+        ("refusal: 1", 2_418),
+        ("refusal: 2", 7_680),
+        ("refusal: 4", 1_935),
+        ("refusal: 5", 1_137),
+        ("refusal: 6", 717),
+        ("action: on", 36_149),
+        ("action: run", 42_225),
+        ("action: wait", 7_921),
+        ("action: halt", 24),
+        ("action: panic", 6),
+        ("action: up0", 572),
+        ("action: up1", 3_071),
+        ("terminate: another, others ready", 1_390),
+        ("terminate: another, nobody else ready", 264),
+        ("terminate: the killer's turn", 783),
+        ("terminate: hands off, others ready", 1_168),
+        ("terminate: hands off, nobody else ready", 81),
+        ("terminate: the spared one's turn", 323),
+        ("named by customer 0: itself", 226),
+        ("named by customer 0: a child", 334),
+        ("named by customer 0: a deeper descendant", 163),
+        ("named by customer 0: an ancestor", 98),
+        ("named by customer 0: a sibling", 183),
+        ("named by customer 0: a cousin", 240),
+        ("named by customer 0: another customer's", 209),
+        ("named by another: itself", 324),
+        ("named by another: a child", 427),
+        ("named by another: a deeper descendant", 98),
+        ("named by another: an ancestor", 170),
+        ("named by another: an ancestor of customer 0", 166),
+        ("named by another: a sibling", 233),
+        ("named by another: a cousin", 354),
+        ("named by another: another of customer 0", 126),
+        ("named by another: another customer's", 200),
+        ("create: customer 0 for itself", 7_579),
+        ("create: customer 0 for another", 3_217),
+        ("create: another, whatever a2 says", 4_898),
+        ("create: another, though a2 / 256 is above 8", 197),
+        ("create: beside a customer at its ceiling", 3_593),
+        ("create: the last place", 1_449),
+        ("create: a place given back", 737),
+        ("create: in the last slot", 90),
+        ("denied: customer 0 for itself", 503),
+        ("denied: customer 0 for another", 423),
+        ("denied: another for itself", 3_126),
+        ("denied: ceiling 0", 179),
+        ("denied: 9 to 255 named", 82),
+        ("denied: 256 or more named", 182),
+        ("denied: slots free", 3_707),
+        ("denied: no slot free", 524),
+        ("table: a newborn with more than 20 ancestors", 531),
+        ("table: all slots taken", 217),
+        ("table: more than 20 ended", 76),
+        ("table: more than 20 woken", 19),
+        ("table: the last slot ended", 44),
+        ("table: the last slot woken", 11),
         ("start: customer 0 alone", 67),
         ("start: sum of all slots", 169),
         ("start: sum below that", 66),
@@ -603,41 +622,75 @@ mod tests {
         ("start: 27 for the sum", 12),
         ("start: 27 for a sum that wraps", 6),
         ("log: whole", 213),
-        ("log: 20", 11),
+        ("log: 20", 10),
         ("log: 21", 16),
-        ("log: 22", 38),
+        ("log: 22", 39),
         ("log: 23", 37),
         ("log: 24", 23),
         ("log: 25", 16),
         ("log: 26", 9),
         ("log: 27", 24),
         ("log: 29", 13),
-        ("processors: as many run as there are", 43_302),
-        ("processors: back, and not behind another's", 1_275),
-        ("processors: clock behind another's", 41_859),
-        ("processors: idle beside a filled line", 6_786),
-        ("processors: idle gap of the killed", 518),
-        ("processors: idle one started by a device", 2_587),
-        ("processors: idle one started by a tick", 1_000),
-        ("processors: left idle beside halt", 12),
-        ("processors: left idle by a death", 88),
-        ("processors: left idle by a kill", 359),
-        ("processors: left idle, someone ready", 307),
-        ("processors: newborn beside an idle one", 2_637),
-        ("processors: number of them, or above", 1_738),
-        ("processors: panic, all idle", 3),
-        ("processors: several left idle", 68),
-        ("processors: spared elsewhere", 513),
-        ("processors: wait beside a runner", 6_555),
-        ("processors: wait for a nucleus line alone", 1_915),
-        ("processors: wake beside an idle one", 1_455),
-        ("refusal: 7", 1_702),
+        ("processors: as many run as there are", 42_529),
+        ("processors: back, and not behind another's", 1_326),
+        ("processors: clock behind another's", 43_518),
+        ("processors: idle beside a filled line", 10_247),
+        ("processors: idle gap of the killed", 514),
+        ("processors: idle one started by a device", 2_314),
+        ("processors: idle one started by a tick", 2_233),
+        ("processors: left idle beside halt", 11),
+        ("processors: left idle by a death", 113),
+        ("processors: left idle by a kill", 316),
+        ("processors: left idle, someone ready", 285),
+        ("processors: newborn beside an idle one", 3_099),
+        ("processors: number of them, or above", 1_446),
+        ("processors: panic, all idle", 4),
+        ("processors: several left idle", 73),
+        ("processors: spared elsewhere", 333),
+        ("processors: wait beside a runner", 4_984),
+        ("processors: wait for a nucleus line alone", 2_937),
+        ("processors: wake beside an idle one", 2_353),
+        ("refusal: 7", 1_416),
         ("start: 27 and not 29", 3),
         ("start: 29 above 8", 9),
         ("start: 29 for none", 4),
         ("start: eight", 46),
         ("start: one processor", 80),
         ("start: several", 157),
+        ("alarms: a high one woken, a low one carries on", 455),
+        ("alarms: a high one yields, and runs again before low ones", 2_459),
+        ("alarms: a low one ended, four counted", 430),
+        ("alarms: both lines empty", 7_722),
+        ("alarms: both lines empty, four counted", 229),
+        ("alarms: high chosen before a few low ones", 6_037),
+        ("alarms: high chosen before eight low ones or more", 14_329),
+        ("alarms: high chosen, the low line empty", 2_879),
+        ("alarms: id 1's slice ends, a high one runs", 133),
+        ("alarms: low chosen after four, high ones ready", 3_884),
+        ("alarms: low chosen after four, the high line empty", 252),
+        ("alarms: low chosen, the high line empty", 14_759),
+        ("alarms: no low one left, four counted", 85),
+        ("alarms: one tick into both lines", 733),
+        ("alarms: surviving high killer, a low one runs", 188),
+        ("alarms: surviving high killer, low ones ready", 738),
+        ("alarms: surviving low killer, a high one runs", 155),
+        ("priority: 0", 1_900),
+        ("priority: 1", 2_889),
+        ("priority: 2", 871),
+        ("priority: 255", 906),
+        ("priority: 256", 136),
+        ("priority: 257", 213),
+        ("priority: 513", 244),
+        ("priority: another high one", 1_421),
+        ("priority: another low one", 7_254),
+        ("priority: high, and a2 / 256 above 8", 57),
+        ("slip seen: counted with the low line empty", 490),
+        ("slip seen: five for four", 3_884),
+        ("slip seen: kept after a low one", 4_612),
+        ("slip seen: kept with the low line empty", 110),
+        ("slip seen: nought after a wait", 43),
+        ("slip seen: one for each processor", 3_410),
+        ("slip seen: three for four", 4_248),
     ];
 
     #[test]
@@ -652,6 +705,17 @@ mod tests {
         }
     }
 
+    /// Whether a stream has deep families, customers of any number, or kills that take the last low one.
+    fn left_to_chance(name: &str) -> bool {
+        let of_a_kill = [
+            "alarms: both lines empty, four counted",
+            "alarms: no low one left, four counted",
+            "slip seen: kept with the low line empty",
+            "slip seen: nought after a wait",
+        ];
+        name.starts_with("table: ") || name.starts_with("priority: ") || of_a_kill.contains(&name)
+    }
+
     #[test]
     fn streams_live_long_and_lack_no_kind() {
         let mut count = Count::default();
@@ -663,8 +727,7 @@ mod tests {
             }
             count.log(log::open_stream(&stream));
         }
-        // Whether families grow deep in a stream is left to chance.
-        for (name, times) in count.rows().filter(|(name, _)| !name.starts_with("table: ")) {
+        for (name, times) in count.rows().filter(|(name, _)| !left_to_chance(name)) {
             let ends = ["action: halt", "action: panic", "refusal: 1"].contains(&name);
             let ends = ends || name.ends_with("left idle beside halt") || name.ends_with("panic, all idle");
             let never = ends || name.starts_with("log: 2") || name.starts_with("start: ");

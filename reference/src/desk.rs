@@ -1,5 +1,6 @@
 //! The machine: its tables, and what it answers to an event.
 
+use crate::ready::Ready;
 use std::collections::VecDeque;
 
 pub const SLOTS: usize = 64;
@@ -139,7 +140,8 @@ struct Ended {
 /// Where a process that isn't running stands.
 #[derive(Clone, Copy, Debug, PartialEq, Eq)]
 enum Line {
-    Ready,
+    High,
+    Low,
     Semaphore(usize),
     Nucleus(usize),
 }
@@ -149,7 +151,7 @@ pub(crate) struct Process {
     pub(crate) id: u32,
     /// The parent's id, 0 for id 1.
     pub(crate) parent: u32,
-    /// "kept, not used for order"
+    /// All of a2.
     priority: u32,
     /// The support handle, 0 for none.
     pub(crate) handle: u32,
@@ -173,7 +175,7 @@ pub struct Desk {
     /// How many of each customer may be alive.
     pub(crate) ceilings: [u16; CUSTOMERS],
     pub(crate) processors: Vec<Processor>,
-    pub(crate) ready: VecDeque<usize>,
+    pub(crate) ready: Ready,
     pub(crate) values: [u32; SEMAPHORES],
     pub(crate) semaphores: [VecDeque<usize>; SEMAPHORES],
     pub(crate) nucleus: [VecDeque<usize>; NUCLEUS_LINES],
@@ -202,7 +204,7 @@ impl Desk {
             processors: (0..processors)
                 .map(|number| Processor { running: first(number), clock, idle: 0 })
                 .collect(),
-            ready: VecDeque::new(),
+            ready: Ready::default(),
             values,
             semaphores: Default::default(),
             nucleus: std::array::from_fn(|_| VecDeque::new()),
@@ -302,7 +304,7 @@ impl Desk {
             -8 => Answer::result(on, self.process(caller).handle.into()),
             -9 if a1 == 0 => Answer::result(on, self.process(caller).id.into()),
             -9 => Answer::result(on, self.process(caller).parent.into()),
-            -10 => self.leave(at, Line::Ready),
+            -10 => self.goes_behind(at),
             _ => self.trap(at),
         }
     }
@@ -326,11 +328,13 @@ impl Desk {
             time: 0,
             line: None,
         });
-        self.join(slot, Line::Ready);
+        self.becomes_ready(slot);
         Answer { newborn: Some(slot), ..Answer::result(action, self.last_id.into()) }
     }
 
-    /// "a1 = 0 means the caller, otherwise an id." Any other than one that may be named gives −1.
+    /// "a1 = 0 means the caller, otherwise an id." Any other than one that may be named gives −1. "a
+    /// surviving caller with a valid target goes to the end of its ready line with result 0, then
+    /// schedule"
     fn terminate(&mut self, at: usize, caller: usize, id: u32) -> Answer {
         let named = if id == 0 { Some(caller) } else { self.find(id) };
         let Some(slot) = named.filter(|&slot| self.may_name(caller, slot)) else {
@@ -338,22 +342,16 @@ impl Desk {
         };
         let ended = self.end(slot);
         let answer = match self.processors[at].running {
-            Some(_) => self.goes_behind(at),
+            Some(_) => Answer { result: Some(0), ..self.goes_behind(at) },
             None => Answer::new(self.schedule(at)),
         };
         ended.tell(at, answer)
     }
 
     /// "only the caller itself or its own descendants; customer 0 may still name anyone"
-    fn may_name(&self, caller: usize, slot: usize) -> bool {
+    pub(crate) fn may_name(&self, caller: usize, slot: usize) -> bool {
         let caller = self.process(caller);
         caller.customer == 0 || self.descent(self.process(slot)).any(|process| process.id == caller.id)
-    }
-
-    /// "a surviving caller with a valid target goes to the end of its ready line with result 0,
-    /// then schedule"
-    fn goes_behind(&mut self, at: usize) -> Answer {
-        Answer { result: Some(0), ..self.leave(at, Line::Ready) }
     }
 
     fn p(&mut self, at: usize, caller: usize, number: usize) -> Answer {
@@ -391,7 +389,7 @@ impl Desk {
     /// "A wake on one processor doesn't start an idle one; an interrupt of lines 2 to 7 there does."
     fn interrupt(&mut self, at: usize, interrupt: Interrupt) -> Answer {
         let (woken, sub_device) = match interrupt.line {
-            1 => return self.leave(at, Line::Ready),
+            1 => return self.goes_behind(at),
             2 => (self.wake_all(Line::Nucleus(PSEUDO_CLOCK)), None),
             _ => {
                 let number = interrupt.sub_device();
@@ -407,11 +405,11 @@ impl Desk {
 
     // Lines and the scheduler.
 
-    /// "first in the ready line runs. If the line is empty: nobody alive, halt; someone waiting
-    /// on a nucleus line, wait; otherwise panic." "With the ready lines empty and someone alive, a
+    /// Whoever is chosen runs. "If the line is empty: nobody alive, halt; someone waiting on a
+    /// nucleus line, wait; otherwise panic." "With the ready lines empty and someone alive, a
     /// processor waits also when another is running somebody; panic needs that nobody runs anywhere."
     fn schedule(&mut self, at: usize) -> Action {
-        let next = self.ready.pop_front();
+        let next = self.ready.choose();
         self.processors[at].running = next;
         if let Some(slot) = next {
             self.process_mut(slot).line = None;
@@ -427,6 +425,11 @@ impl Desk {
         }
     }
 
+    /// The running process goes to the end of its ready line, then schedule.
+    fn goes_behind(&mut self, at: usize) -> Answer {
+        self.leave(at, self.ready_line(self.runner(at)))
+    }
+
     /// The running process goes to the end of a line, then schedule.
     fn leave(&mut self, at: usize, line: Line) -> Answer {
         let slot = self.runner(at);
@@ -435,17 +438,30 @@ impl Desk {
         Answer::new(self.schedule(at))
     }
 
+    fn becomes_ready(&mut self, slot: usize) {
+        self.join(slot, self.ready_line(slot));
+    }
+
+    /// "the ready line" becomes "the line of the process's own priority"
+    fn ready_line(&self, slot: usize) -> Line {
+        if self.process(slot).is_high() {
+            Line::High
+        } else {
+            Line::Low
+        }
+    }
+
     fn join(&mut self, slot: usize, line: Line) {
         self.process_mut(slot).line = Some(line);
         self.line_mut(line).push_back(slot);
     }
 
-    /// The first in the line goes to the end of the ready line; the mask names it.
+    /// The first in the line goes to the end of its ready line; the mask names it.
     fn wake(&mut self, line: Line) -> u64 {
         let Some(slot) = self.line_mut(line).pop_front() else {
             return 0;
         };
-        self.join(slot, Line::Ready);
+        self.becomes_ready(slot);
         1 << slot
     }
 
@@ -488,7 +504,8 @@ impl Desk {
 
     fn line_mut(&mut self, line: Line) -> &mut VecDeque<usize> {
         match line {
-            Line::Ready => &mut self.ready,
+            Line::High => &mut self.ready.high,
+            Line::Low => &mut self.ready.low,
             Line::Semaphore(number) => &mut self.semaphores[number],
             Line::Nucleus(number) => &mut self.nucleus[number],
         }
@@ -552,6 +569,13 @@ impl Desk {
 
     pub(crate) fn at_ceiling(&self, customer: usize) -> bool {
         self.living_of(customer) >= self.ceilings[customer].into()
+    }
+}
+
+impl Process {
+    /// "a2 mod 256 equal to 1 is high, all else low"
+    pub(crate) fn is_high(&self) -> bool {
+        self.priority % 256 == 1
     }
 }
 

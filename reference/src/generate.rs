@@ -9,6 +9,8 @@ use crate::kin::Kin;
 use crate::log::{Start, MAX_BYTES};
 use crate::rng::Rng;
 
+mod alarms;
+
 /// What the next event is about.
 type Topic = fn(&mut Generator) -> Kind;
 
@@ -63,6 +65,10 @@ pub struct Generator {
     flood: Option<u32>,
     /// The table fills with one family, until nobody has room.
     family: Option<Family>,
+    /// So many newborns in eight are high.
+    alarms: u32,
+    /// So many events lead to a wait with four counted (`last_stand`).
+    stand: usize,
 }
 
 /// The log of a seed: `count` events, or as many as 65,536 bytes hold.
@@ -87,7 +93,7 @@ impl Generator {
         let rng = &mut generator.rng;
         generator.careful = match rng.below(8) {
             0 => rng.index(count + 1),
-            _ => count.saturating_sub(rng.index(16)),
+            _ => count.saturating_sub(rng.index(32)),
         };
         // Each log has its own mix, and may lack some topics, but it creates.
         generator.mix = MIX.map(|(topic, often, _)| (topic, often * rng.below(4))).to_vec();
@@ -101,6 +107,7 @@ impl Generator {
         };
         // One log in three begins with a table that fills: without it 64 slots seldom are taken.
         generator.family = rng.pick(&[None, None, None, None, Some(Family::Broad), Some(Family::Deep)]);
+        generator.alarms = rng.pick(&[0, 1, 2, 3, 4, 4, 6, 7]);
         generator.desk = generator.start.desk();
         generator
     }
@@ -136,6 +143,8 @@ impl Generator {
             turns: 0,
             flood: None,
             family: Some(Family::Broad),
+            alarms: 1,
+            stand: 0,
         }
     }
 
@@ -158,7 +167,7 @@ impl Generator {
             let answer = after.event(&event);
             if !after.over || self.careful == 0 {
                 if answer.killer_survives() && !self.stream {
-                    self.turns = after.ready.len();
+                    self.turns = after.ready.slots().count();
                 }
                 if answer.result == Some(-1) {
                     self.flood = None;
@@ -174,6 +183,10 @@ impl Generator {
     fn processor(&mut self) -> u8 {
         let many = self.start.processors;
         let any = self.rng.below(many.into()) as u8;
+        let busy = self.in_the_stand();
+        if !busy.is_empty() {
+            return self.rng.pick(&busy);
+        }
         match self.rng.below(if self.stream { 2000 } else { 64 }) {
             0 => self.rng.pick(&[many, many, 8, 9, 128, 255, any | 128]),
             1..=9 => self.at.min(many - 1),
@@ -212,12 +225,15 @@ impl Generator {
     }
 
     fn topic(&mut self) -> Topic {
-        if let Some(topic) = self.growth() {
+        if let Some(topic) = self.growth().or_else(|| self.last_stand()) {
             return topic;
         }
         let idle = self.running().is_none() && !self.desk.over;
-        if idle && !self.rng.one_in(if self.stream { 500 } else { 4 }) {
+        if idle && !self.rng.one_in(if self.stream { 200 } else { 4 }) {
             return if self.rng.one_in(4) { Generator::tick } else { Generator::device };
+        }
+        if let Some(topic) = self.contest() {
+            return topic;
         }
         if self.turns > 0 {
             self.turns -= 1;
@@ -276,7 +292,8 @@ impl Generator {
     fn kin(&mut self) -> Kind {
         let a1 = self.few();
         let named = self.roomy().first().copied().unwrap_or(0);
-        self.call_with(Mode::Kernel, -1, a1, named * 256)
+        let priority = self.priority();
+        self.call_with(Mode::Kernel, -1, a1, named * 256 + priority)
     }
 
     /// Whether the caller has no child yet, and room for one: so families grow deep.
@@ -308,7 +325,7 @@ impl Generator {
         Kind::Call(Call { mode, a0, a1, a2, a3 })
     }
 
-    /// One create, or in a log the first of a flood.
+    /// One create, or in a log the first of a flood: of low ones mostly, and here and there a high one.
     fn create(&mut self) -> Kind {
         let named = match self.flood {
             Some(named) => named,
@@ -317,9 +334,10 @@ impl Generator {
         if !self.stream && self.rng.one_in(8) {
             self.flood = Some(named);
         }
-        let priority = self.rng.byte() >> self.rng.below(8);
+        let low = self.flood.is_some() && !self.rng.one_in(6);
+        let priority = if low { self.low_priority() } else { self.priority() };
         let a1 = self.few();
-        self.call_with(Mode::Kernel, -1, a1, named * 256 + u32::from(priority))
+        self.call_with(Mode::Kernel, -1, a1, named * 256 + priority)
     }
 
     /// What a2 / 256 names: mostly a customer that may live, in streams one that has room; now and

@@ -8,5 +8,6 @@ mod kin;
 pub mod line;
 pub mod log;
 pub mod pager;
+mod ready;
 pub mod rng;
 pub mod sleep;

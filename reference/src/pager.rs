@@ -124,11 +124,11 @@ impl Pager {
                 }
                 return None;
             }
-            Ask::Refill { u, page } => self.from_uproc(u, |pager, u| pager.refill(u, page)),
+            Ask::Refill { u, page } => self.for_uproc(u, |pager, u| pager.refill(u, page)),
             Ask::Fault { u, page, modification } => {
-                self.from_uproc(u, |pager, u| pager.fault(u, page, modification))
+                self.for_uproc(u, |pager, u| pager.fault(u, page, modification))
             }
-            Ask::End { u } => self.from_uproc(u, Pager::end),
+            Ask::End { u } => self.for_uproc(u, Pager::end),
             Ask::Report { ok } if self.agrees() => match self.open {
                 Some(transfer) => self.report(transfer, ok),
                 None => Told::refused(11),
@@ -139,7 +139,7 @@ impl Pager {
     }
 
     /// 9, then 12, then 11.
-    fn from_uproc(&mut self, u: u32, then: impl FnOnce(&mut Self, u8) -> Told) -> Told {
+    fn for_uproc(&mut self, u: u32, then: impl FnOnce(&mut Self, u8) -> Told) -> Told {
         if u == 0 || u > U_PROCS {
             return Told::refused(9);
         }

@@ -191,7 +191,7 @@ pub fn run(text: &[u8]) -> Result<Vec<u8>, Vec<u8>> {
 pub fn generate(seed: u64, lines: usize) -> Vec<u8> {
     let mut rng = Rng::new(seed);
     let mut text = String::new();
-    let damaged = seed % 5 == 0;
+    let damaged = seed.is_multiple_of(5);
     for i in 0..lines {
         let number = if rng.one_in(12) { rng.below(3) * 9 } else { 1 + rng.below(8) };
         let line = match rng.below(10) {

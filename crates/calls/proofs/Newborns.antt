@@ -1,7 +1,7 @@
 -- A birth, over machines alone: what the code leaves is the rule book's birth, and the layout holds again.
 -- Assumes nothing.
 use mathlib.Core.Path.{_≡_, refl, sym, ap, ap₂, _∙_}
-use mathlib.Core.List.{List, [], _∷_, _++_, map, map-append}
+use mathlib.Core.List.{List, [], _∷_, map}
 use Prim.Native.Nat.{ℕ, zero, suc, _+_, _^_, _<_, _≤_}
 use native.Mathlib.Omega.{arith}
 use native.Mathlib.Decide.{ℕ-discrete}
@@ -9,24 +9,25 @@ use lib.ListN.{getD, set, length-set}
 use lib.Seq.{getD-set-same, getD-set-other}
 use Rattle.rules.specs.Numbers.{base-slots}
 use Rattle.rules.specs.Machine as book
-use Rattle.rules.specs.Machine.{Process, Waiter, child-of, newborn, birth, lowest-free}
+use Rattle.rules.specs.Machine.{Process, Waiter, with-next, child-of, newborn, birth, lowest-free}
 use Rattle.lines.specs.Lines.{occ, one, mask-of-taken}
-use Rattle.lines.proofs.Occ.{one-same, one-other, occ-snoc}
+use Rattle.lines.proofs.Occ.{one-same, one-other, occ-append}
 use Rattle.lines.proofs.Zeros.{mask-set, mask-fits}
-use Rattle.lines.proofs.Laws.{push-view, push-line}
 use Rattle.lines.proofs.Bridge.{occurring, map-same, each}
 use Rattle.tables.specs.declared.Tables.{Tables}
 use Rattle.tables.specs.Codes.{decode, status-of}
-use Rattle.tables.specs.View.{row, waiter, occupant, readies, waiters, seats, view, live, Shape}
+use Rattle.tables.specs.View.{row, waiter, occupant, highs, lows, waiters, seats, view, live, Shape}
 use Rattle.kin.specs.Families.{above, climb, elders, Parent, Kin}
-use Rattle.tables.specs.Contracts.{Step}
+use Rattle.tables.specs.Contracts.{lined-up, Step}
 use Rattle.kin.proofs.Climbs.{elders-up}
 use Rattle.tables.proofs.Away.{seats-alike}
+use Rattle.tables.proofs.Lining.{high-lined, low-lined, occ-lined, lined-seen}
+use Rattle.tables.proofs.Moves.{one-slot, occ-alone}
 use Rattle.tables.proofs.Seats.{Seat, Waits, pos-live, occ-seats, seat, away-seat, ready-seat, waiting, runner-seat, room-beside}
 
--- a child of whoever runs, in the slot s, by the bit that it takes and the ready line that it joins
-abbrev pub born-with : Tables → ℕ → ℕ → ℕ → ℕ → ℕ → List ℕ → ℕ → Tables
-born-with m s bit customer priority handle q n = record {
+-- the row of a child of whoever runs, in the slot s, by the bit that it takes: it is in no line yet
+abbrev pub rowed : Tables → ℕ → ℕ → ℕ → ℕ → ℕ → Tables
+rowed m s bit customer priority handle = record {
   ids = set (m .ids) s (m .next);
   taken = m .taken + bit;
   parents = set (m .parents) s (m .running + 1);
@@ -35,8 +36,11 @@ born-with m s bit customer priority handle q n = record {
   handles = set (m .handles) s handle;
   times = m .times;
   lines = m .lines;
-  ready = q;
-  nready = n;
+  high = m .high;
+  nhigh = m .nhigh;
+  low = m .low;
+  nlow = m .nlow;
+  four = m .four;
   waits = m .waits;
   nwaits = m .nwaits;
   running = m .running;
@@ -54,9 +58,9 @@ born-with m s bit customer priority handle q n = record {
   processors = m .processors;
 }
 
--- at the end of the ready line
+-- at the end of its ready line
 abbrev pub born : Tables → ℕ → ℕ → ℕ → ℕ → Tables
-born m s customer priority handle = born-with m s (2 ^ s) customer priority handle (set (m .ready) (m .nready) s) (m .nready + 1)
+born m s customer priority handle = lined-up (s ∷ []) (rowed m s (2 ^ s) customer priority handle)
 
 -- who climbs past a free slot does not see what is stored there
 climb-past : (ps ids : List ℕ) → Kin ps ids → (f u v : ℕ) → getD ids f 0 ≡ 0 → (n s : ℕ) → s < base-slots → (s ≡ f → ⊥) → climb (set ps f u) (set ids f v) n s ≡ climb ps ids n s
@@ -81,7 +85,10 @@ module _ (m : Tables) (g : Shape m) (h : m .running < base-slots) (s customer pr
   run : Seat m (m .running)
   run = runner-seat m g h
 
-  room : m .nready < base-slots
+  abbrev b₀ : Tables
+  b₀ = rowed m s (2 ^ s) customer priority handle
+
+  room : m .nhigh + m .nlow + 1 ≤ base-slots
   room = omega (arith, room-beside m g h)
 
   pos : 0 < m .next
@@ -106,9 +113,6 @@ module _ (m : Tables) (g : Shape m) (h : m .running < base-slots) (s customer pr
   -- nobody alive has the free slot
   apart : (x : ℕ) → Seat m x → x ≡ s → ⊥
   apart x p e = let y : ⊥ = omega (arith, p .alive, free, ap (λ t. getD (m .ids) t 0) e) in y
-
-  joins : readies r ≡ readies m ++ (s ∷ [])
-  joins = push-view base-slots (m .ready) (m .nready) s (g .ready-line) room
 
   kin-born : Kin (r .parents) (r .ids)
   kin-born x p c e = go (ℕ-discrete x s)
@@ -153,7 +157,7 @@ module _ (m : Tables) (g : Shape m) (h : m .running < base-slots) (s customer pr
       go (no p) (no q) = g .once x y c d (omega (arith, k, id-other x p)) (sym (id-other x p) ∙ e ∙ id-other y q)
 
   seats-born : (x : ℕ) → occ x (seats r) ≡ occ x (seats m) + one s x
-  seats-born x = omega (arith, occ-seats r x, occ-seats m x, ap (occ x) joins, occ-snoc x (readies m) s)
+  seats-born x = omega (arith, occ-seats r x, occ-seats m x, occ-lined b₀ (g .high-line) (g .low-line) (s ∷ []) room x, occ-alone x s)
 
   -- a fact of a row whose id is zero is one of the old rows
   unborn : (Q : ℕ → Type 0) → ((x : ℕ) → x < base-slots → (x ≡ s → ⊥) → getD (m .ids) x 0 ≡ 0 → Q x) → (x : ℕ) → x < base-slots → getD (r .ids) x 0 ≡ 0 → Q x
@@ -172,7 +176,8 @@ module _ (m : Tables) (g : Shape m) (h : m .running < base-slots) (s customer pr
     lines-long = g .lines-long;
     sems-long = g .sems-long;
     ceilings-long = g .ceilings-long;
-    ready-line = push-line base-slots (m .ready) (m .nready) s (g .ready-line) room b;
+    high-line = high-lined b₀ (g .high-line) (g .low-line) (s ∷ []) room (one-slot s b);
+    low-line = low-lined b₀ (g .high-line) (g .low-line) (s ∷ []) room (one-slot s b);
     waits-line = g .waits-line;
     runner = g .runner;
     homes = each base-slots s (λ x. occ x (seats r) ≡ live (getD (r .ids) x 0))
@@ -201,29 +206,31 @@ module _ (m : Tables) (g : Shape m) (h : m .running < base-slots) (s customer pr
     within = g .within;
   }
 
-  abbrev with-birth : List Process → List Process → List Waiter → ℕ → List book.Seat → book.Machine
-  with-birth run q w k ss = record { slots = base-slots; ceilings = m .ceilings; running = run; ready = q; waiting = w; sems = m .sems; next = k; status = status-of (m .status); last = m .last; total = m .total; idle = m .idle; ended = m .ended; elsewhere = ss }
+  abbrev with-birth : List Process → List Process → List Process → List Waiter → ℕ → List book.Seat → book.Machine
+  with-birth run h l w k ss = record { slots = base-slots; ceilings = m .ceilings; running = run; high = h; low = l; four = m .four; waiting = w; sems = m .sems; next = k; status = status-of (m .status); last = m .last; total = m .total; idle = m .idle; ended = m .ended; elsewhere = ss }
 
-  pub birth-step : lowest-free (view m) ≡ s → customer ≡ child-of (getD (m .customers) (m .running) 0) priority → Step (birth (row m (m .running)) priority handle) m r
-  unfolding birth
-  birth-step low theirs =
-      let runs : view r .running ≡ view m .running = map-same (Seat m) (row r) (row m) old-row (occupant (m .running)) (occurring (Seat m) (occupant (m .running)) (λ x o. seat-of x o)) in
-      let ready : view r .ready ≡ view m .ready ++ (newborn (row m (m .running)) priority handle (view m) ∷ []) =
-      ap (map (row r)) joins
-      ∙ map-append (row r) (readies m) (s ∷ [])
-      ∙ ap₂ (λ (xs ys : List Process). xs ++ ys) (map-same (Seat m) (row r) (row m) old-row (readies m) (occurring (Seat m) (readies m) (ready-seat m g))) (ap (λ p. p ∷ []) (new-row low theirs)) in
+  -- the rows of the others are as they were
+  same-rows : (l : List ℕ) → ((x : ℕ) → 1 ≤ occ x l → Seat m x) → map (row r) l ≡ map (row m) l
+  same-rows l seats = map-same (Seat m) (row r) (row m) old-row l (occurring (Seat m) l seats)
+
+  row-written : view b₀ ≡ with-next (suc (m .next)) (view m)
+  row-written =
+      let runs : view r .running ≡ view m .running = same-rows (occupant (m .running)) (λ x o. seat m g x (omega (arith, occ-seats m x))) in
+      let highs-stay : map (row r) (highs m) ≡ view m .high = same-rows (highs m) (λ x o. ready-seat m g x (omega (arith, occ-append x (highs m) (lows m)))) in
+      let lows-stay : map (row r) (lows m) ≡ view m .low = same-rows (lows m) (λ x o. ready-seat m g x (omega (arith, occ-append x (highs m) (lows m)))) in
       let waits : view r .waiting ≡ view m .waiting = map-same (Waits m) (waiter r) (waiter m) (λ x w. ap (λ p. at-line (getD (m .lines) x 0) p) (old-row x (w .seat))) (waiters m) (waiting m g) in
       let there : view r .elsewhere ≡ view m .elsewhere = seats-alike (row r) (row m) (m .runners) (λ x o. old-row x (away-seat m g x o)) (m .processors) (λ k. getD (m .lasts) k 0) (λ k. getD (m .idles) k 0) in
-      record {
-        seen =
-            ap₂ (λ l ss. with-birth l (view r .ready) (view r .waiting) (r .next) ss) runs there
-            ∙ ap₂ (λ q w. with-birth (view m .running) q w (r .next) (view m .elsewhere)) ready waits
-            ∙ ap (λ k. with-birth (view m .running) (view m .ready ++ (newborn (row m (m .running)) priority handle (view m) ∷ [])) (view m .waiting) k (view m .elsewhere)) (let z : m .next + 1 ≡ suc (m .next) = omega arith in z);
-        shape = born-shape;
-      }
+      let next : m .next + 1 ≡ suc (m .next) = omega arith in
+      λ i. with-birth (runs i) (highs-stay i) (lows-stay i) (waits i) (next i) (there i)
     where
       at-line : ℕ → Process → Waiter
       at-line c p = record { process = p; line = decode c }
 
-      seat-of : (x : ℕ) → 1 ≤ occ x (occupant (m .running)) → Seat m x
-      seat-of x o = seat m g x (omega (arith, occ-seats m x))
+  pub birth-step : lowest-free (view m) ≡ s → customer ≡ child-of (getD (m .customers) (m .running) 0) priority → Step (birth (row m (m .running)) priority handle) m r
+  unfolding birth
+  birth-step low theirs = record {
+    seen =
+        lined-seen b₀ (g .high-line) (g .low-line) (s ∷ []) room
+        ∙ ap₂ (λ (p : Process) (k : book.Machine). book.joined (p ∷ []) k) (new-row low theirs) row-written;
+    shape = born-shape;
+  }

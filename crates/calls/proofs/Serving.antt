@@ -2,7 +2,7 @@
 -- Assumes nothing.
 use mathlib.Core.Path.{_≡_, refl, sym, ap, ap₂, _∙_}
 use mathlib.Core.Bool.{Bool, true, false}
-use mathlib.Core.List.{List, [], _∷_, _++_, map, append-nil}
+use mathlib.Core.List.{List, [], _∷_, map, append-nil}
 use Prim.Native.Nat.{ℕ, _+_, _-_, _<_, _≤_}
 use native.Mathlib.Omega.{arith}
 use borrow.Author.Needs.{needs}
@@ -15,7 +15,7 @@ use Rattle.rules.specs.declared.Cause.the-variants.{General}
 use Rattle.rules.specs.Words.{if_then_else_, first, those, front, without}
 use Rattle.rules.specs.Numbers.{base-sems, sub-devices, top}
 use Rattle.rules.specs.Machine as book
-use Rattle.rules.specs.Machine.{Process, Waiter, with-lines, with-sem, at, line, block, wake}
+use Rattle.rules.specs.Machine.{Process, Waiter, with-places, with-ready, joined, with-sem, at, line, block, wake}
 use Rattle.rules.specs.Answers.{plain, naming, waking, mask}
 use Rattle.rules.specs.Rules.{pass-up-or-die, trap, schedule, carry-on, resume, passeren, verhogen, do-io, tick, device-done, exists, value, may-rise}
 use Rattle.tables.specs.declared.Tables.{Tables}
@@ -40,9 +40,8 @@ without-none t (w ∷ ws) e = go (t w) e (without-none t ws)
 pub wake-nobody : (l : Line) (m : book.Machine) → line l m ≡ [] → wake l m ≡ m
 unfolding wake line
 wake-nobody l m e =
-    ap₂ (λ (q : List Process) (w : List Waiter). with-lines (m .running) q w m)
-    (ap (λ (k : List Process). m .ready ++ front k) e ∙ append-nil (m .ready))
-    (without-none (at l) (m .waiting) e)
+    ap₂ (λ (ps : List Process) (w : List Waiter). joined (front ps) (with-places (m .running) w m)) e (without-none (at l) (m .waiting) e)
+    ∙ ap₂ (λ (h q : List Process). with-ready h q (m .four) m) (append-nil (m .high)) (append-nil (m .low))
 
 -- a device's interrupt, with or without somebody in the line
 pub device-done-is : (d : ℕ) (m : book.Machine) → device-done d m ≡ resume (device-told d (mask (front (line (Device d) m)))) (wake (Device d) m)
@@ -89,7 +88,7 @@ device-comes d b m w r t h =
 
 -- ---- P
 abbrev pub put-sem : ℕ → ℕ → Tables → Tables
-put-sem i v m = record { ids = m .ids; taken = m .taken; parents = m .parents; customers = m .customers; priorities = m .priorities; handles = m .handles; times = m .times; lines = m .lines; ready = m .ready; nready = m .nready; waits = m .waits; nwaits = m .nwaits; running = m .running; sems = set (m .sems) i v; ceilings = m .ceilings; next = m .next; status = m .status; last = m .last; total = m .total; idle = m .idle; ended = m .ended; runners = m .runners; lasts = m .lasts; idles = m .idles; processors = m .processors }
+put-sem i v m = record { ids = m .ids; taken = m .taken; parents = m .parents; customers = m .customers; priorities = m .priorities; handles = m .handles; times = m .times; lines = m .lines; high = m .high; nhigh = m .nhigh; low = m .low; nlow = m .nlow; four = m .four; waits = m .waits; nwaits = m .nwaits; running = m .running; sems = set (m .sems) i v; ceilings = m .ceilings; next = m .next; status = m .status; last = m .last; total = m .total; idle = m .idle; ended = m .ended; runners = m .runners; lasts = m .lasts; idles = m .idles; processors = m .processors }
 
 pub sem-shape : (i v : ℕ) (m : Tables) → Shape m → Shape (put-sem i v m)
 sem-shape i v m g = let long : length (set (m .sems) i v) ≡ base-sems = simp length-set (g .sems-long) in search needs

@@ -21,7 +21,6 @@ use lines::Found;
 use lines::find_id;
 use lines::lowest_free;
 use lines::power;
-use lines::push;
 use rules::Cause;
 use rules::DEVICES;
 use rules::Mode;
@@ -46,8 +45,8 @@ fn replies(t: Tables, result: Result) -> Settled
     t.carries_on(x)
 }
 
-// −1: "The newborn is the caller's child, last in the ready line, time 0." A customer below its ceiling always finds a
-// free slot: that none is left cannot be.
+// −1: "The newborn is the caller's child, last in the ready line, time 0": in that of its own priority. A customer
+// below its ceiling always finds a free slot: that none is left cannot be.
 fn create(mut t: Tables, a2: u32, a3: u32) -> Settled
     requires { ⌜ Shape t × (t .running < base-slots) × Sound (view t) ⌝ }
     ensures { λ r. ⌜ Comes (create (row t (t .running)) 0 a2 a3 (view t)) r ⌝ }
@@ -65,8 +64,6 @@ fn create(mut t: Tables, a2: u32, a3: u32) -> Settled
         return replies(t, Result::Says(-1));
     };
     let slot = s as u8;
-    let n = t.nready;
-    t.nready = push(&mut t.ready, n, slot);
     t.ids[s] = id;
     t.taken = t.taken + power(s);
     t.parents[s] = at as u8 + 1;
@@ -74,9 +71,10 @@ fn create(mut t: Tables, a2: u32, a3: u32) -> Settled
     t.priorities[s] = a2;
     t.handles[s] = a3;
     t.next = id + 1;
+    let m = t.joins(slot);
     let result = says(id as u64);
     let x = bears(result, slot);
-    t.carries_on(x)
+    m.carries_on(x)
 }
 
 // −2: "The named process and all descendants end."; 02, (ix): "a surviving caller with a valid target goes to the end

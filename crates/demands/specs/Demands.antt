@@ -28,6 +28,7 @@ use Rattle.ledger.specs.Places.{Places}
 use Rattle.ledger.specs.Kills.{Kills, Ancestors-alive}
 use Rattle.ledger.specs.Hands.{Other-runs, Hands-off}
 use Rattle.ledger.specs.Moves.{move, Moved}
+use Rattle.ledger.specs.Choices.{Choosing, Queued}
 use Rattle.ledger.specs.Order.{In-order, Nobody-overtakes}
 use Rattle.ledger.specs.Semaphores.{Semaphores}
 use Rattle.ledger.specs.Times.{Times}
@@ -67,6 +68,8 @@ pub record Lawful (number now : ℕ) (values ceilings : List ℕ) (es : List Arr
   pub ancestors : Ancestors-alive (past (beginning number now) es said .births) end
   pub hands-off : (k : ℕ) (e : Event) → Other-runs (turned k (past (beginning number now) es said)) → Hands-off (turned k (past (beginning number now) es said)) e (step (turn k end) e .answer)
   pub moves : (k : ℕ) (e : Event) → accepted (step (turn k end) e .answer) ≡ true → Moved (move e (turn k end)) (charge (clock e) (turn k end)) (step (turn k end) e)
+  pub queues : Queued (past (beginning number now) es said .queues) end
+  pub choosing : (k : ℕ) (e : Event) → accepted (step (turn k end) e .answer) ≡ true → Choosing (turned k (past (beginning number now) es said)) e (step (turn k end) e .answer)
   pub order : (k : ℕ) (e : Event) → In-order (turn k end) (step (turn k end) e .after)
   pub nobody-overtakes : (later : List Arrival) → Nobody-overtakes end later
   pub semaphores : Semaphores values es said end
@@ -89,6 +92,8 @@ demand-3 number now values ceilings es s rs ok t f =
       ancestors = promises.ancestors base-slots number now values ceilings es (omega arith) ok;
       hands-off = promises.hands-off base-slots number now values ceilings es (omega arith) ok;
       moves = promises.moves base-slots number now values ceilings es (omega arith) ok;
+      queues = promises.queues base-slots number now values ceilings es (omega arith) ok;
+      choosing = promises.choosing base-slots number now values ceilings es (omega arith) ok;
       order = promises.order base-slots number now values ceilings es (omega arith) ok;
       nobody-overtakes = promises.nobody-overtakes base-slots number now values ceilings es (omega arith) ok;
       semaphores = promises.semaphores base-slots number now values ceilings es (omega arith) ok;

@@ -3,7 +3,7 @@ ghost use mathlib.Core.Path.{_≡_};
 ghost use Rattle.rules.specs.Answers.{mask};
 ghost use Rattle.rules.specs.Machine.{living, living-of, ceiling};
 ghost use Rattle.rules.specs.Rules.{value};
-ghost use Rattle.looks.specs.Looks.{seat-of, who-runs, row-at, readies-in-order, waiting-in-order, sums, standing};
+ghost use Rattle.looks.specs.Looks.{seat-of, who-runs, row-at, highs-in-order, lows-in-order, waiting-in-order, sums, standing};
 ghost use Rattle.desk.specs.View.{view, Good};
 use crate::Machine;
 use looks::Order;
@@ -41,13 +41,31 @@ impl Machine {
         looks::row_in(t, slot)
     }
 
-    // The ready line, first come first.
-    pub fn ready(self) -> Order
+    // The high ready line, first come first.
+    pub fn high(self) -> Order
         requires { ⌜ Good self ⌝ }
-        ensures { λ r. ⌜ r ≡ readies-in-order (view self) ⌝ }
+        ensures { λ r. ⌜ r ≡ highs-in-order (view self) ⌝ }
     {
         let t = self.tables;
-        looks::ready(t)
+        looks::high(t)
+    }
+
+    // The low ready line, first come first.
+    pub fn low(self) -> Order
+        requires { ⌜ Good self ⌝ }
+        ensures { λ r. ⌜ r ≡ lows-in-order (view self) ⌝ }
+    {
+        let t = self.tables;
+        looks::low(t)
+    }
+
+    // The count of four: how many high ones in a row were chosen while a low one was waiting.
+    pub fn four(self) -> u8
+        requires { ⌜ Good self ⌝ }
+        ensures { λ r. ⌜ r ≡ view self .four ⌝ }
+    {
+        let t = self.tables;
+        t.four
     }
 
     // All who wait, in the order in which they came; a row tells the line of each.

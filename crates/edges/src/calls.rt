@@ -3,10 +3,10 @@
 // −1 and −8
 fn create() {
     play::play(
-        b"# create: last in the ready line, whatever its priority; a1 is not looked at
+        b"# create: last in the low line, for priorities 0, 2 and 255; a1 is not looked at
 start 1000
 kernel 1100 -1 0 0 0
-kernel 1200 -1 5 1 0
+kernel 1200 -1 5 2 0
 kernel 1300 -1 4294967295 255 0
 kernel 1400 -10
 kernel 1500 -10

@@ -1,4 +1,5 @@
 // Every edge of the rules, played: what it writes is held to `stdout`, which was written by hand from the rules.
+mod alarms;
 mod calls;
 mod ceilings;
 mod fields;
@@ -18,5 +19,6 @@ fn main() {
     hands::all();
     interrupts::all();
     processors::all();
+    alarms::all();
     fields::all();
 }

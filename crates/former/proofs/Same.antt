@@ -52,7 +52,7 @@ nobody-ready x m = of-first (Former.living m) refl (λ p. chosen (Former.nucleus
 
 schedule : (x : Answer) (m : Former.Machine) → Rules.schedule x (grown m) ≡ brought (Former.schedule x m)
 unfolding Rules.schedule Former.schedule dispatch Former.dispatch
-schedule x m = of-first (m .ready) (nobody-ready x m) (λ p. refl)
+schedule x m = of-first (Former.next-line m) (nobody-ready x m) (λ p. refl)
 
 resume : (x : Answer) (m : Former.Machine) → Rules.resume x (grown m) ≡ brought (Former.resume x m)
 unfolding Rules.resume Former.resume Rules.carry-on Former.carry-on

@@ -1,13 +1,12 @@
--- THE RULE BOOK AS IT STOOD BEFORE 02, (xiii): its machine, and every rule that speaks of a machine, word for word (of
--- crates/rules/specs as of the landing before that request; only the order of the parts and the `use` lines differ, and
--- `ending` leaves the new mask of an answer as it is).
--- It is here for one purpose: proofs/Same shows that one processor gets the answers that it got before, whatever the
--- start and the events. Nothing else reads it. What speaks of no machine (words, waiting lines, families, the parts of
--- an
--- answer, the refusals that look at the event alone) did not change, and is the rule book's own.
+-- THE RULES OF ONE PROCESSOR: the rule book as it stood before 02, (xiii), its machine and every rule that speaks of a
+-- machine, word for word (of crates/rules/specs as of the landing before that request; only the order of the parts and
+-- the `use` lines differ, and `ending` leaves the new mask of an answer as it is), with alarms first, (vi), in it.
+-- It is here for one purpose: proofs/Same shows that one processor gets the answers of these rules, whatever the start
+-- and the events. Nothing else reads it. What speaks of no machine (words, waiting lines, the choosing between two
+-- lines, families, the parts of an answer, the refusals that look at the event alone) is the rule book's own.
 use mathlib.Core.Bool.{Bool, true, false, not, _&&_, _||_}
 use mathlib.Core.List.{List, [], _∷_, _++_, map}
-use Prim.Native.Nat.{ℕ, suc, _+_, _-_, _/_, _%_, _^_}
+use Prim.Native.Nat.{ℕ, suc, _+_, _-_, _%_, _^_}
 use lib.Dec.{eqb, leb, ltb}
 use lib.IntN.{ℤ, pos, negsuc}
 use lib.ListN.{length, getD, set, replicate}
@@ -25,18 +24,20 @@ use Rattle.rules.specs.declared.Answer.{Answer}
 use Rattle.rules.specs.Words.{if_then_else_, first, those, front, rest, without, any, sum, many}
 use Rattle.rules.specs.Numbers.{top, sub-devices, gap-limit, time-limit, over, clock-back, time-full, nobody-runs, no-such-line, no-such-code, value-too-large, ceilings-not-allowed}
 use Rattle.rules.specs.Starts.{too-large, not-allowed}
-use Rattle.rules.specs.Machine.{Process, Waiter, Status, On, Halted, Panicked, longer, nucleus, at, family, lowest, child-of}
+use Rattle.rules.specs.Machine.{Process, Waiter, Status, On, Halted, Panicked, longer, nucleus, is-high, low-turn, next-of, counted, at, family, lowest, child-of}
 use Rattle.rules.specs.Answers.{plain, refusing, doing, giving, bearing, naming, mask, waking}
 use Rattle.rules.specs.Rules.{sub-device, clock, not-on, bad-line, bad-code, needs-runner, valid, least-ceilings}
 
--- the machine: how many slots there are; how many each customer may have alive; who runs (nobody, or one); the ready
--- line; all who wait, in the order in which they came;
+-- the machine: how many slots there are; how many each customer may have alive; who runs (nobody, or one); the two
+-- ready lines of 02, (vi), and its count of four; all who wait, in the order in which they came;
 -- the semaphores' values; the next id; the last clock reading, the sum of the accepted gaps, idle time and ended time
 pub record Machine : Type 0 where
   pub slots : ℕ
   pub ceilings : List ℕ
   pub running : List Process
-  pub ready : List Process
+  pub high : List Process
+  pub low : List Process
+  pub four : ℕ
   pub waiting : List Waiter
   pub sems : List ℕ
   pub next : ℕ
@@ -46,9 +47,9 @@ pub record Machine : Type 0 where
   pub idle : ℕ
   pub ended : ℕ
 
--- everyone alive: each is in one place, running, in the ready line, or in one waiting line
+-- everyone alive: each is in one place, running, in one ready line, or in one waiting line
 unfoldable pub living : Machine → List Process
-living m = m .running ++ (m .ready ++ map (λ w. w .process) (m .waiting))
+living m = m .running ++ ((m .high ++ m .low) ++ map (λ w. w .process) (m .waiting))
 
 -- 02, (ii): the living of a customer, the running, the ready and the waiting ones all counted; how many it may have
 -- alive
@@ -59,14 +60,20 @@ abbrev pub ceiling : ℕ → Machine → ℕ
 ceiling c m = getD (m .ceilings) c 0
 
 -- the same, but for one part
-abbrev pub with-lines : List Process → List Process → List Waiter → Machine → Machine
-with-lines r q w m = record { slots = m .slots; ceilings = m .ceilings; running = r; ready = q; waiting = w; sems = m .sems; next = m .next; status = m .status; last = m .last; total = m .total; idle = m .idle; ended = m .ended }
+abbrev pub with-places : List Process → List Waiter → Machine → Machine
+with-places r w m = record { slots = m .slots; ceilings = m .ceilings; running = r; high = m .high; low = m .low; four = m .four; waiting = w; sems = m .sems; next = m .next; status = m .status; last = m .last; total = m .total; idle = m .idle; ended = m .ended }
+
+abbrev pub with-ready : List Process → List Process → ℕ → Machine → Machine
+with-ready h l n m = record { slots = m .slots; ceilings = m .ceilings; running = m .running; high = h; low = l; four = n; waiting = m .waiting; sems = m .sems; next = m .next; status = m .status; last = m .last; total = m .total; idle = m .idle; ended = m .ended }
 
 abbrev pub with-sem : ℕ → ℕ → Machine → Machine
-with-sem i v m = record { slots = m .slots; ceilings = m .ceilings; running = m .running; ready = m .ready; waiting = m .waiting; sems = set (m .sems) i v; next = m .next; status = m .status; last = m .last; total = m .total; idle = m .idle; ended = m .ended }
+with-sem i v m = record { slots = m .slots; ceilings = m .ceilings; running = m .running; high = m .high; low = m .low; four = m .four; waiting = m .waiting; sems = set (m .sems) i v; next = m .next; status = m .status; last = m .last; total = m .total; idle = m .idle; ended = m .ended }
 
 abbrev pub with-status : Status → Machine → Machine
-with-status s m = record { slots = m .slots; ceilings = m .ceilings; running = m .running; ready = m .ready; waiting = m .waiting; sems = m .sems; next = m .next; status = s; last = m .last; total = m .total; idle = m .idle; ended = m .ended }
+with-status s m = record { slots = m .slots; ceilings = m .ceilings; running = m .running; high = m .high; low = m .low; four = m .four; waiting = m .waiting; sems = m .sems; next = m .next; status = s; last = m .last; total = m .total; idle = m .idle; ended = m .ended }
+
+abbrev pub with-next : ℕ → Machine → Machine
+with-next n m = record { slots = m .slots; ceilings = m .ceilings; running = m .running; high = m .high; low = m .low; four = m .four; waiting = m .waiting; sems = m .sems; next = n; status = m .status; last = m .last; total = m .total; idle = m .idle; ended = m .ended }
 
 -- who waits in a line, first come first
 unfoldable pub line : Line → Machine → List Process
@@ -76,25 +83,39 @@ line l m = map (λ w. w .process) (those (at l) (m .waiting))
 unfoldable pub nucleus-waits : Machine → Bool
 nucleus-waits m = any (λ w. nucleus (w .line)) (m .waiting)
 
+-- 02, (vi): 'in 01 "the ready line" becomes the line of the process's own priority': these join it, each at the end of
+-- its own, in their order
+abbrev pub joined : List Process → Machine → Machine
+joined ps m = with-ready (m .high ++ those is-high ps) (m .low ++ those (λ p. not (is-high p)) ps) (m .four) m
+
+-- (vi), "choosing the next": whether it is a low one; the line whose first is chosen
+abbrev pub takes-low : Machine → Bool
+takes-low m = low-turn (m .high) (m .low) (m .four)
+
+abbrev pub next-line : Machine → List Process
+next-line m = next-of (m .high) (m .low) (m .four)
+
 -- "the running process goes to the end of the ready line"
 unfoldable pub back : Machine → Machine
-back m = with-lines [] (m .ready ++ m .running) (m .waiting) m
+back m = joined (m .running) (with-places [] (m .waiting) m)
 
 -- "it joins the end of that line"
 unfoldable pub block : Line → Machine → Machine
-block l m = with-lines [] (m .ready) (m .waiting ++ map (λ p. record { process = p; line = l }) (m .running)) m
+block l m = with-places [] (m .waiting ++ map (λ p. record { process = p; line = l }) (m .running)) m
 
--- "first in the ready line runs"
+-- "first in the ready line runs", the line being that of the choice
 unfoldable pub dispatch : Machine → Machine
-dispatch m = with-lines (front (m .ready)) (rest (m .ready)) (m .waiting) m
+dispatch m =
+    with-ready (if takes-low m then m .high else rest (m .high)) (if takes-low m then rest (m .low) else m .low)
+    (counted (m .high) (m .low) (m .four)) (with-places (front (next-line m)) (m .waiting) m)
 
 -- "the first goes to the end of the ready line"
 unfoldable pub wake : Line → Machine → Machine
-wake l m = with-lines (m .running) (m .ready ++ front (line l m)) (without (at l) (m .waiting)) m
+wake l m = joined (front (line l m)) (with-places (m .running) (without (at l) (m .waiting)) m)
 
 -- "all who wait for the pseudo-clock go to the ready line, first come first"
 unfoldable pub wake-all : Line → Machine → Machine
-wake-all l m = with-lines (m .running) (m .ready ++ line l m) (those (λ w. not (at l w)) (m .waiting)) m
+wake-all l m = joined (line l m) (with-places (m .running) (those (λ w. not (at l w)) (m .waiting)) m)
 
 unfoldable pub family-of : ℕ → Machine → List Process
 family-of n m = those (family n) (living m)
@@ -106,7 +127,9 @@ kill n m = record {
   slots = m .slots;
   ceilings = m .ceilings;
   running = those (λ p. not (family n p)) (m .running);
-  ready = those (λ p. not (family n p)) (m .ready);
+  high = those (λ p. not (family n p)) (m .high);
+  low = those (λ p. not (family n p)) (m .low);
+  four = m .four;
   waiting = those (λ w. not (family n (w .process))) (m .waiting);
   sems = m .sems;
   next = m .next;
@@ -127,20 +150,7 @@ newborn p priority handle m = record { slot = lowest-free m; id = m .next; ances
 
 -- ".. last in the ready line"; ids "are never used again"
 unfoldable pub birth : Process → ℕ → ℕ → Machine → Machine
-birth p priority handle m = record {
-  slots = m .slots;
-  ceilings = m .ceilings;
-  running = m .running;
-  ready = m .ready ++ newborn p priority handle m ∷ [];
-  waiting = m .waiting;
-  sems = m .sems;
-  next = suc (m .next);
-  status = m .status;
-  last = m .last;
-  total = m .total;
-  idle = m .idle;
-  ended = m .ended;
-}
+birth p priority handle m = joined (newborn p priority handle m ∷ []) (with-next (suc (m .next)) m)
 
 -- "the gap is the reading now less the last one, wrapping at 32 bits"
 unfoldable pub gap : ℕ → Machine → ℕ
@@ -152,7 +162,9 @@ charge now m = record {
   slots = m .slots;
   ceilings = m .ceilings;
   running = map (longer (gap now m)) (m .running);
-  ready = m .ready;
+  high = m .high;
+  low = m .low;
+  four = m .four;
   waiting = m .waiting;
   sems = m .sems;
   next = m .next;
@@ -170,7 +182,9 @@ fresh slots now values ceilings = record {
   slots = slots;
   ceilings = ceilings;
   running = record { slot = 0; id = 1; ancestors = []; customer = 0; priority = 0; handle = 0; time = 0 } ∷ [];
-  ready = [];
+  high = [];
+  low = [];
+  four = 0;
   waiting = [];
   sems = values;
   next = 2;
@@ -205,9 +219,9 @@ nobody-ready x m =
     first (living m) (act Halt x (with-status Halted m)) λ p.
     if nucleus-waits m then act Wait x m else act Panic x (with-status Panicked m)
 
--- "first in the ready line runs"
+-- "first in the ready line runs"; 02, (vi): "choosing the next now means .."
 unfoldable pub schedule : Answer → Machine → Outcome
-schedule x m = first (m .ready) (nobody-ready x m) λ p. act (Run (p .slot)) x (dispatch m)
+schedule x m = first (next-line m) (nobody-ready x m) λ p. act (Run (p .slot)) x (dispatch m)
 
 -- "caller carries on"
 unfoldable pub carry-on : Process → Answer → Machine → Outcome

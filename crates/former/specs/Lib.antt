@@ -1,3 +1,3 @@
--- The rule book of one processor, as it stood before 02, (xiii).
+-- The rules of one processor: as they stood before 02, (xiii), with alarms first, (vi).
 pub mod Former
 pub mod Grown

@@ -2,22 +2,24 @@
 -- words are the event's own.
 use mathlib.Core.Path.{sym, subst}
 use mathlib.Core.Bool.{not}
-use mathlib.Core.List.{List, _++_, map}
+use mathlib.Core.List.{List, map}
 use Prim.Native.Nat.{ℕ}
 use lib.Dec.{eqb}
 use lib.IntN.{pos, negsuc}
 use Rattle.rules.specs.declared.Event.{Event}
 use Rattle.rules.specs.declared.Event.the-variants.{Call, Interrupt, Exception}
 use Rattle.rules.specs.Words.{front, All}
-use Rattle.rules.proofs.Cases.{if-cases, first-cases, All-over, All-under, All-append, All-those, All-front, All-rest, All-without, getD-cases}
-use Rattle.rules.specs.Machine.{Process, Waiter, Seat, Machine, seated-in, living, at, line, family, child-of, newborn, charge}
+use Rattle.rules.proofs.Cases.{if-cases, first-cases, All-over, All-under, All-append, All-left, All-right, All-those, All-front, All-without, getD-cases}
+use Rattle.rules.specs.Machine.{Process, Seat, Machine, seated-in, living, is-high, at, line, family, child-of, newborn, charge}
 use Rattle.rules.proofs.Living.{process, all-living, all-running, all-elsewhere, all-ready, all-waiting, seats-killed}
 use Rattle.rules.specs.Answers.{Outcome}
 use Rattle.rules.specs.Rules.{denied, value, clock}
 use Rattle.ledger.specs.History.{a2-of}
+use Rattle.ledger.specs.Choices.{Lists, lists-of, joining, chosen}
 use Rattle.ledger.specs.Kills.{passed-up, target}
-use Rattle.ledger.specs.Moves.{Move, none, steps-back, joins, first-wakes, all-wake, is-born, ends, call-moves, carried-out, move, moved, others, queue, Moved}
+use Rattle.ledger.specs.Moves.{Move, none, steps-back, joins, first-wakes, all-wake, is-born, ends, call-moves, carried-out, move, moved, others, Moved}
 use Rattle.ledger.proofs.Lines.{line-all}
+use Rattle.ledger.proofs.Chosen.{still-waiting, chosen-each}
 
 -- the support handle that an event carries
 abbrev pub a3-of : Event → ℕ
@@ -56,8 +58,18 @@ module _ (P : Process → Type 0) (m : Machine) (h : All P (living m)) where
   runs : All P (m .running)
   runs = all-running P m h
 
-  rdy : All P (m .ready)
-  rdy = all-ready P m h
+  -- the two ready lines, and these who join them
+  high : All P (m .high)
+  high = All-left P (m .high) (m .low) (all-ready P m h)
+
+  low : All P (m .low)
+  low = All-right P (m .high) (m .low) (all-ready P m h)
+
+  abbrev Both : Lists → Type 0
+  Both l = All P (l .high) × All P (l .low)
+
+  join : (ps : List Process) (l : Lists) → Both l → All P ps → Both (joining ps l)
+  join ps l b a = (All-append P (l .high) _ (b .0) (All-those P is-high ps a), All-append P (l .low) _ (b .1) (All-those P (λ p. not (is-high p)) ps a))
 
   wts : All (λ w. P (w .process)) (m .waiting)
   wts = All-under P process (m .waiting) (all-waiting P m h)
@@ -71,14 +83,17 @@ module _ (P : Process → Type 0) (m : Machine) (h : All P (living m)) where
   on-each (is-born a2 a3) = runs
   on-each (ends n) = tt
 
-  ready-each : (v : Move) → Born (λ a2 a3. All P (map (λ p. newborn p a2 a3 m) (m .running))) v → All P (moved v m .ready)
-  ready-each none s = rdy
-  ready-each steps-back s = All-append P (m .ready) (m .running) rdy runs
-  ready-each (joins l) s = rdy
-  ready-each (first-wakes l) s = All-append P (m .ready) (front (line l m)) rdy (All-front P (line l m) (line-all P l m h))
-  ready-each (all-wake l) s = All-append P (m .ready) (line l m) rdy (line-all P l m h)
-  ready-each (is-born a2 a3) s = All-append P (m .ready) (map (λ p. newborn p a2 a3 m) (m .running)) rdy s
-  ready-each (ends n) s = All-those P (λ p. not (family n p)) (m .ready ++ m .running) (All-append P (m .ready) (m .running) rdy runs)
+  ready-each : (v : Move) → Born (λ a2 a3. All P (map (λ p. newborn p a2 a3 m) (m .running))) v → Both (moved v m)
+  ready-each none s = (high, low)
+  ready-each steps-back s = join (m .running) (lists-of m) (high, low) runs
+  ready-each (joins l) s = (high, low)
+  ready-each (first-wakes l) s = join (front (line l m)) (lists-of m) (high, low) (All-front P (line l m) (line-all P l m h))
+  ready-each (all-wake l) s = join (line l m) (lists-of m) (high, low) (line-all P l m h)
+  ready-each (is-born a2 a3) s = join (map (λ p. newborn p a2 a3 m) (m .running)) (lists-of m) (high, low) s
+  ready-each (ends n) s =
+      let l : Lists = joining (m .running) (lists-of m) in
+      let k : Both l = join (m .running) (lists-of m) (high, low) runs in
+      (All-those P (λ p. not (family n p)) (l .high) (k .0), All-those P (λ p. not (family n p)) (l .low) (k .1))
 
   waiting-each : (v : Move) → All (λ w. P (w .process)) (moved v m .waiting)
   waiting-each none = wts
@@ -100,12 +115,13 @@ module _ (P : Process → Type 0) (m : Machine) (h : All P (living m)) where
 
   each-after : (v : Move) (o : Outcome) → Moved v m o → Born (λ a2 a3. All P (map (λ p. newborn p a2 a3 m) (m .running))) v → All P (living (o .after))
   each-after v o w s =
-      let q : All P (queue v m) = All-append P (moved v m .on) (moved v m .ready) (on-each v) (ready-each v s) in
+      let c = chosen-each P (moved v m) (on-each v) (ready-each v s .0) (ready-each v s .1) in
+      let waits : All P (map process (chosen (moved v m) .waiting)) = rw (still-waiting (moved v m)) (All-over P process (moved v m .waiting) (waiting-each v)) in
       all-living P (o .after)
-      (subst (All P) (sym (w .runs)) (All-front P (queue v m) q))
+      (subst (λ (l : Lists). All P (l .on)) (sym (w .places)) (c .0))
       (subst (λ (ss : List Seat). All P (seated-in ss)) (sym (w .elsewhere)) (others-each v))
-      (subst (All P) (sym (w .ready)) (All-rest P (queue v m) q))
-      (subst (λ (ws : List Waiter). All P (map process ws)) (sym (w .waiting)) (All-over P process (moved v m .waiting) (waiting-each v)))
+      (All-append P (o .after .high) (o .after .low) (subst (λ (l : Lists). All P (l .high)) (sym (w .places)) (c .1)) (subst (λ (l : Lists). All P (l .low)) (sym (w .places)) (c .2)))
+      (subst (λ (l : Lists). All P (map process (l .waiting))) (sym (w .places)) waits)
 
 -- an event in the machine m: the gap is charged first
 pub moved-each : (P : Process → Type 0) (m : Machine) (e : Event) (o : Outcome) → let k = charge (clock e) m in Moved (move e m) k o

@@ -1,4 +1,4 @@
--- Why an accepted event moves just whom `move` says, and the first in the ready line then runs where nobody does.
+-- Why an accepted event moves just whom `move` says, and the next is then chosen where nobody runs.
 use mathlib.Core.Path.{_≡_, refl, sym, _∙_, ap, ap₂, subst}
 use mathlib.Core.Bool.{Bool, true, false, not, _&&_, _||_, true≢false}
 use mathlib.Core.List.{List, [], _∷_, _++_, map, append-nil}
@@ -18,13 +18,14 @@ use Rattle.rules.specs.declared.Line.the-variants.{Semaphore, Device, PseudoClo
 use Rattle.rules.specs.declared.Cause.{Cause}
 use Rattle.rules.specs.declared.Cause.the-variants.{Tlb, General}
 use Rattle.rules.specs.declared.Action.{Action}
-use Rattle.rules.specs.declared.Action.the-variants.{PassUp}
+use Rattle.rules.specs.declared.Action.the-variants.{Wait, Halt, Panic, PassUp}
+use Rattle.rules.specs.declared.Part.the-variants.{Absent}
 use Rattle.rules.specs.declared.Answer.{Answer}
 use Rattle.rules.specs.Words.{if_then_else_, first, those, any, front, rest, without, count, Single}
 use Rattle.rules.specs.Numbers.{top, sub-devices}
 use Rattle.rules.proofs.Cases.{if-cases, first-cases, single-cases, getD-past, and-left}
-use Rattle.rules.proofs.Lines.{those-append}
-use Rattle.rules.specs.Machine.{Process, Waiter, Machine, with-sem, living, living-of, ceiling, nucleus-waits, at, line, back, block, dispatch, wake, wake-all, named, family, kill, lowest-free, child-of, newborn, birth, longer, gap, charge}
+use Rattle.rules.proofs.Lines.{those-append, those-those}
+use Rattle.rules.specs.Machine.{Process, Waiter, Machine, Status, Halted, Panicked, with-sem, with-status, is-high, next-line, living, living-of, ceiling, nucleus-waits, at, line, back, block, dispatch, wake, wake-all, named, family, kill, lowest-free, child-of, newborn, birth, longer, gap, charge}
 use Rattle.rules.proofs.Living.{sum-charged-same}
 use Rattle.rules.specs.Answers.{Outcome, plain, mask, giving, bearing, ending, waking, naming}
 use Rattle.rules.specs.Rules
@@ -32,48 +33,71 @@ use Rattle.rules.specs.Rules.{Service, act, step}
 use Rattle.rules.proofs.Walk.{charge-single, kill-none}
 use Rattle.rules.proofs.Laws.{accepts, passed}
 use Rattle.ledger.proofs.Lists.{no-one, everyone, any-many, those-alike, nobody-passes, somebody-passes}
+use Rattle.ledger.specs.History.{keeps-running, slot-run}
+use Rattle.ledger.specs.Choices.{Lists, lists-of, placed, joining, chosen}
 use Rattle.ledger.specs.Kills.{passed-up, terminates, valid-name, target-by, target}
-use Rattle.ledger.specs.Moves.{Move, none, steps-back, joins, first-wakes, all-wake, is-born, ends, creates, call-moves, carried-out, move, moved, others, left, woken, ended, Moved}
+use Rattle.ledger.specs.Moves.{Move, none, steps-back, joins, first-wakes, all-wake, is-born, ends, creates, call-moves, carried-out, move, moved, others, left, woken, ended, newborn-part, Acts, Moved}
 
--- ── Whoever runs goes on, or the first in the ready line runs: from the machine k, with the answer so far x ──
+-- ── Whoever runs goes on, or the next is chosen: from the machine k, with the answer so far x ──
+
+first-some : {B : Type 0} (ps qs : List Process) (p : Process) → ps ≡ p ∷ qs → (a b : B) → first ps a (λ q. b) ≡ b
+first-some {B = B} ps qs p e a b = ap (λ (rs : List Process). first {B = B} rs a (λ q. b)) e
+
+first-none : {B : Type 0} (ps : List Process) → ps ≡ [] → (a : B) (f : Process → B) → first ps a f ≡ a
+first-none {B = B} ps e a f = ap (λ (rs : List Process). first {B = B} rs a f) e
 
 record Settles (x : Answer) (k : Machine) (o : Outcome) : Type 0 where
-  runs : o .after .running ≡ front (k .running ++ k .ready)
-  ready : o .after .ready ≡ rest (k .running ++ k .ready)
-  waiting : o .after .waiting ≡ k .waiting
+  places : lists-of (o .after) ≡ chosen (lists-of k)
+  action : Acts (lists-of k) (o .answer .action)
+  newborn-told : o .answer .newborn ≡ x .newborn
   woken-mask : o .answer .woken ≡ x .woken
   ended-mask : o .answer .ended ≡ x .ended
   elsewhere : o .after .elsewhere ≡ k .elsewhere
   idled-mask : o .answer .idled ≡ x .idled
 
-goes-on : (x : Answer) (p : Process) (a : Action) (k : Machine) → k .running ≡ p ∷ [] → Settles x k (act a x k)
-goes-on x p a k r = record { runs = r ∙ ap (λ (ps : List Process). front (ps ++ k .ready)) (sym r); ready = ap (λ (ps : List Process). rest (ps ++ k .ready)) (sym r); waiting = refl; woken-mask = refl; ended-mask = refl; elsewhere = refl; idled-mask = refl }
+goes-on : (x : Answer) (p : Process) (a : Action) (k : Machine) → keeps-running a ≡ true → k .running ≡ p ∷ [] → Settles x k (act a x k)
+goes-on x p a k on r = record {
+  places = sym (first-some (k .running) [] p r _ (lists-of k));
+  action = rw r on;
+  newborn-told = refl;
+  woken-mask = refl;
+  ended-mask = refl;
+  elsewhere = refl;
+  idled-mask = refl;
+}
 
 -- nobody is there to run
-rests : (x : Answer) (k : Machine) (o : Outcome) → k .running ≡ [] → k .ready ≡ []
-    → o .after .running ≡ k .running → o .after .ready ≡ k .ready → o .after .waiting ≡ k .waiting → o .answer .woken ≡ x .woken → o .answer .ended ≡ x .ended → o .after .elsewhere ≡ k .elsewhere → o .answer .idled ≡ x .idled → Settles x k o
-rests x k o r e a b c d f g h = record { runs = a ∙ r ∙ sym (ap₂ (λ (ps qs : List Process). front (ps ++ qs)) r e); ready = b ∙ e ∙ sym (ap₂ (λ (ps qs : List Process). rest (ps ++ qs)) r e); waiting = c; woken-mask = d; ended-mask = f; elsewhere = g; idled-mask = h }
+rests : (x : Answer) (a : Action) (s : Status) (k : Machine) → k .running ≡ [] → next-line k ≡ [] → keeps-running a ≡ false → slot-run a ≡ [] → Settles x k (act a x (with-status s k))
+rests x a s k r e off nobody = record {
+  places = sym (first-none (k .running) r _ _ ∙ first-none (next-line k) e _ _);
+  action = rw (r, e) (off, nobody);
+  newborn-told = refl;
+  woken-mask = refl;
+  ended-mask = refl;
+  elsewhere = refl;
+  idled-mask = refl;
+}
 
 schedules : (x : Answer) (k : Machine) → k .running ≡ [] → Settles x k (Rules.schedule x k)
 unfolding Rules.schedule Rules.nobody-ready dispatch
 schedules x k r =
-    first-cases (Settles x k) (k .ready)
-    (λ e. first-cases (Settles x k) (living k) (λ _. rests x k _ r e refl refl refl refl refl refl refl) λ p ys _.
-    if-cases (Settles x k) (Rules.worth-waiting k) (λ _. rests x k _ r e refl refl refl refl refl refl refl) (λ _. rests x k _ r e refl refl refl refl refl refl refl))
-    (λ p ys e. record { runs = ap (λ (ps : List Process). front (ps ++ k .ready)) (sym r); ready = ap (λ (ps : List Process). rest (ps ++ k .ready)) (sym r); waiting = refl; woken-mask = refl; ended-mask = refl; elsewhere = refl; idled-mask = refl })
+    first-cases (Settles x k) (next-line k)
+    (λ e. first-cases (Settles x k) (living k) (λ _. rests x Halt Halted k r e refl refl) λ p ys _.
+    if-cases (Settles x k) (Rules.worth-waiting k) (λ _. rests x Wait (k .status) k r e refl refl) (λ _. rests x Panic Panicked k r e refl refl))
+    (λ p ys e. record { places = rw (r, e) refl; action = rw (r, e) (refl, refl); newborn-told = refl; woken-mask = refl; ended-mask = refl; elsewhere = refl; idled-mask = refl })
 
 resumes : (x : Answer) (k : Machine) → Single (k .running) → Settles x k (Rules.resume x k)
 unfolding Rules.resume Rules.carry-on
-resumes x k s = single-cases (Settles x k) (k .running) s (λ r. schedules x k r) (λ p r. goes-on x p _ k r)
+resumes x k s = single-cases (Settles x k) (k .running) s (λ r. schedules x k r) (λ p r. goes-on x p _ k refl r)
 
 -- ── Each change is a move ──
 
-as-move : (v : Move) (m : Machine) (x : Answer) (k : Machine) (o : Outcome) → k .running ≡ moved v m .on → k .ready ≡ moved v m .ready → k .waiting ≡ moved v m .waiting
+as-move : (v : Move) (m : Machine) (x : Answer) (k : Machine) (o : Outcome) → lists-of k ≡ moved v m → x .newborn ≡ newborn-part v m
     → x .woken ≡ mask (woken v m) → x .ended ≡ mask (ended v m) → k .elsewhere ≡ others v m → x .idled ≡ left v m → Settles x k o → Moved v m o
-as-move v m x k o a b c u w d i s = record {
-  runs = s .runs ∙ ap₂ (λ (ps qs : List Process). front (ps ++ qs)) a b;
-  ready = s .ready ∙ ap₂ (λ (ps qs : List Process). rest (ps ++ qs)) a b;
-  waiting = s .waiting ∙ c;
+as-move v m x k o l b u w d i s = record {
+  places = s .places ∙ ap chosen l;
+  action = subst (λ (l : Lists). Acts l (o .answer .action)) l (s .action);
+  newborn-told = s .newborn-told ∙ b;
   woken-mask = s .woken-mask ∙ u;
   ended-mask = s .ended-mask ∙ w;
   elsewhere = s .elsewhere ∙ d;
@@ -93,14 +117,18 @@ none-gone t (w ∷ ws) e = go (t w) e (none-gone t ws)
     go true e ih = absurd (no-one (w .process) (map (λ w. w .process) (those t ws)) e)
     go false e ih = ap (λ (vs : List Waiter). w ∷ vs) (ih e)
 
+nobody-joins : (l : Lists) → joining [] l ≡ l
+nobody-joins l = ap₂ (λ (hs ls : List Process). record { on = l .on; high = hs; low = ls; four = l .four; waiting = l .waiting }) (append-nil (l .high)) (append-nil (l .low))
+
 nobody-wakes : (l : Line) (m : Machine) (o : Outcome) → line l m ≡ [] → Moved none m o → Moved (first-wakes l) m o
 unfolding line
 nobody-wakes l m o e s =
-    let q : m .ready ≡ m .ready ++ front (line l m) = sym (ap (λ (ps : List Process). m .ready ++ front ps) e ∙ append-nil (m .ready)) in
+    let same : moved none m ≡ moved (first-wakes l) m =
+    sym (ap₂ (λ (ps : List Process) (ws : List Waiter). joining (front ps) (placed (m .running) ws m)) e (none-gone (at l) (m .waiting) e) ∙ nobody-joins (moved none m)) in
     record {
-      runs = s .runs ∙ ap (λ (ps : List Process). front (m .running ++ ps)) q;
-      ready = s .ready ∙ ap (λ (ps : List Process). rest (m .running ++ ps)) q;
-      waiting = s .waiting ∙ sym (none-gone (at l) (m .waiting) e);
+      places = s .places ∙ ap chosen same;
+      action = subst (λ (l : Lists). Acts l (o .answer .action)) same (s .action);
+      newborn-told = s .newborn-told;
       woken-mask = s .woken-mask ∙ ap (λ (ps : List Process). mask (front ps)) (sym e);
       ended-mask = s .ended-mask;
       elsewhere = s .elsewhere;
@@ -113,20 +141,32 @@ nobody-wakes l m o e s =
 abbrev move-by : Event → Machine → Process → Move
 move-by e m p = first (target-by e m p) (if passed-up e m then none else carried-out e m) ends
 
-stays : (m : Machine) (x : Answer) (p : Process) (a : Action) → x .woken ≡ 0 → x .ended ≡ 0 → x .idled ≡ 0 → m .running ≡ p ∷ [] → Moved none m (act a x m)
-stays m x p a u w i r = as-move none m x m _ refl refl refl (u ∙ no-mask) (w ∙ no-mask) refl i (goes-on x p a m r)
+stays : (m : Machine) (x : Answer) (p : Process) (a : Action) → keeps-running a ≡ true → x .newborn ≡ Absent → x .woken ≡ 0 → x .ended ≡ 0 → x .idled ≡ 0 → m .running ≡ p ∷ [] → Moved none m (act a x m)
+stays m x p a on b u w i r = as-move none m x m _ refl b (u ∙ no-mask) (w ∙ no-mask) refl i (goes-on x p a m on r)
 
--- the spared of the ready line, and behind them whoever ran and is spared
-pub spared-behind : (n : ℕ) (m : Machine) → those (λ p. not (family n p)) (m .ready ++ m .running) ≡ kill n m .ready ++ kill n m .running
-unfolding kill
-spared-behind n m = those-append (λ p. not (family n p)) (m .ready) (m .running)
+-- those of a ready line who are spared, and behind them whoever ran and is spared
+pub spared-behind : (t u : Process → Bool) (ps rs : List Process) → those t ps ++ those u (those t rs) ≡ those t (ps ++ those u rs)
+spared-behind t u ps rs = ap (λ (qs : List Process). those t ps ++ qs) (those-those u t rs) ∙ sym (those-append t ps (those u rs))
+
+pub spared-lists : (n : ℕ) (m : Machine) → lists-of (back (kill n m)) ≡ moved (ends n) m
+unfolding back kill
+spared-lists n m =
+    let t : Process → Bool = λ p. not (family n p) in
+    ap₂ (λ (hs ls : List Process). record { on = []; high = hs; low = ls; four = m .four; waiting = those (λ w. t (w .process)) (m .waiting) })
+    (spared-behind t is-high (m .high) (m .running)) (spared-behind t (λ p. not (is-high p)) (m .low) (m .running))
+
+-- the killed one runs no longer, so that nobody goes back
+nobody-back : (k : Machine) → k .running ≡ [] → lists-of k ≡ lists-of (back k)
+unfolding back
+nobody-back k r =
+    ap (λ (rs : List Process). record { on = rs; high = k .high; low = k .low; four = k .four; waiting = k .waiting }) r
+    ∙ sym (ap (λ (rs : List Process). joining rs (placed [] (k .waiting) k)) r ∙ nobody-joins (placed [] (k .waiting) k))
 
 dies : (n : ℕ) (p : Process) (m : Machine) → family n p ≡ true → m .running ≡ p ∷ [] → Moved (ends n) m (Rules.die n m)
 unfolding Rules.die kill
 dies n p m f r =
-    as-move (ends n) m (ending n m plain) (kill n m) _ (kill-none n p m r f)
-    (sym (spared-behind n m ∙ ap (λ (ps : List Process). kill n m .ready ++ ps) (kill-none n p m r f) ∙ append-nil (kill n m .ready)))
-    refl no-mask refl refl refl (schedules _ _ (kill-none n p m r f))
+    as-move (ends n) m (ending n m plain) (kill n m) _ (nobody-back (kill n m) (kill-none n p m r f) ∙ spared-lists n m) refl no-mask refl refl refl
+    (schedules _ _ (kill-none n p m r f))
 
 own-family : (p : Process) → family (p .id) p ≡ true
 unfolding family
@@ -138,7 +178,7 @@ passes-or-dies e c p m up r = rw up (go (eqb (p .handle) 0))
   where
     go : (b : Bool) → Moved (first (if b then p .id ∷ [] else []) none ends) m (if b then Rules.die (p .id) m else act (PassUp (p .slot) c) plain m)
     go true = dies (p .id) p m (own-family p) r
-    go false = stays m plain p _ refl refl refl r
+    go false = stays m plain p _ refl refl refl refl refl r
 
 -- an event that is carried out and ends nobody
 carried : (e : Event) (m : Machine) (p : Process) (o : Outcome) (v : Move) → passed-up e m ≡ false → terminates e p ≡ [] → carried-out e m ≡ v → Moved v m o → Moved (move-by e m p) m o
@@ -159,10 +199,10 @@ create now p a1 a2 a3 m r =
     x = giving (pos (m .next)) (bearing (lowest-free m) plain)
 
     go : (b : Bool) → Moved (if b then none else is-born a2 a3) m (if b then Rules.carry-on p (giving (negsuc 0) plain) m else Rules.carry-on p x (birth p a2 a3 m))
-    go true = stays m (giving (negsuc 0) plain) p _ refl refl refl r
+    go true = stays m (giving (negsuc 0) plain) p _ refl refl refl refl refl r
     go false =
-        as-move (is-born a2 a3) m x (birth p a2 a3 m) _ refl (ap (λ (rs : List Process). m .ready ++ map (λ q. newborn q a2 a3 m) rs) (sym r)) refl no-mask no-mask refl refl
-        (goes-on x p _ (birth p a2 a3 m) r)
+        as-move (is-born a2 a3) m x (birth p a2 a3 m) _ (ap (λ (rs : List Process). joining (map (λ q. newborn q a2 a3 m) rs) (placed (m .running) (m .waiting) m)) (sym r)) refl no-mask no-mask refl refl
+        (goes-on x p _ (birth p a2 a3 m) refl r)
 
 terminate : Serves 1 Rules.terminate
 unfolding Rules.terminate Rules.carry-on named kill back
@@ -180,22 +220,22 @@ terminate now p a1 a2 a3 m r = named-one (if eqb a1 0 then p .id else a1)
     named-one : (n : ℕ) → Moved (first (if any (t n) (living m) then n ∷ [] else []) none ends) m (first (those (t n) (living m)) (Rules.carry-on p (giving (negsuc 0) plain) m) ending-of)
     named-one n =
         first-cases (Moved (first (if any (t n) (living m) then n ∷ [] else []) none ends) m) (those (t n) (living m))
-        (λ e. rw (nobody-passes (t n) (living m) e) (stays m (giving (negsuc 0) plain) p _ refl refl refl r))
+        (λ e. rw (nobody-passes (t n) (living m) e) (stays m (giving (negsuc 0) plain) p _ refl refl refl refl refl r))
         (λ q qs e.
         let k = somebody-passes (t n) (living m) q qs e in
         let z : n ≡ q .id = eqb-true n (q .id) (and-left (eqb n (q .id)) (Rules.may-name p q) (k .1)) in
         rw (k .0) (subst (λ (j : ℕ). Moved (ends j) m (ending-of q)) (sym z)
         (if-cases (Moved (ends (q .id)) m) (family (q .id) p) (λ f. dies (q .id) p m f r)
-        (λ f. as-move (ends (q .id)) m (giving (pos 0) (ending (q .id) m plain)) (back (kill (q .id) m)) _ refl (sym (spared-behind (q .id) m)) refl no-mask refl refl refl
+        (λ f. as-move (ends (q .id)) m (giving (pos 0) (ending (q .id) m plain)) (back (kill (q .id) m)) _ (spared-lists (q .id) m) refl no-mask refl refl refl
         (schedules _ (back (kill (q .id) m)) refl)))))
 
-blocks : (l : Line) (x : Answer) (m : Machine) → x .woken ≡ 0 → x .ended ≡ 0 → x .idled ≡ 0 → Moved (joins l) m (Rules.schedule x (block l m))
+blocks : (l : Line) (x : Answer) (m : Machine) → x .newborn ≡ Absent → x .woken ≡ 0 → x .ended ≡ 0 → x .idled ≡ 0 → Moved (joins l) m (Rules.schedule x (block l m))
 unfolding block
-blocks l x m u w i = as-move (joins l) m x (block l m) _ refl refl refl (u ∙ no-mask) (w ∙ no-mask) refl i (schedules x (block l m) refl)
+blocks l x m b u w i = as-move (joins l) m x (block l m) _ refl b (u ∙ no-mask) (w ∙ no-mask) refl i (schedules x (block l m) refl)
 
 steps : (m : Machine) → Moved steps-back m (Rules.schedule plain (back m))
 unfolding back
-steps m = as-move steps-back m plain (back m) _ refl refl refl no-mask no-mask refl refl (schedules plain (back m) refl)
+steps m = as-move steps-back m plain (back m) _ refl refl no-mask no-mask refl refl (schedules plain (back m) refl)
 
 passeren : Serves 2 Rules.passeren
 unfolding Rules.passeren Rules.carry-on Rules.trap
@@ -206,8 +246,8 @@ passeren now p a1 a2 a3 m r = go (Rules.exists a1 m) refl
 
     taken : (c : Bool) → Rules.exists a1 m ≡ true → eqb (Rules.value a1 m) 0 ≡ c
         → Moved (move-by e m p) m (if c then Rules.schedule plain (block (Semaphore a1) m) else Rules.carry-on p plain (with-sem a1 (Rules.value a1 m - 1) m))
-    taken true here q = carried e m p _ (joins (Semaphore a1)) (rw here) refl (rw q) (blocks (Semaphore a1) plain m refl refl refl)
-    taken false here q = carried e m p _ none (rw here) refl (rw q) (as-move none m plain (with-sem a1 (Rules.value a1 m - 1) m) _ refl refl refl no-mask no-mask refl refl (goes-on plain p _ _ r))
+    taken true here q = carried e m p _ (joins (Semaphore a1)) (rw here) refl (rw q) (blocks (Semaphore a1) plain m refl refl refl refl)
+    taken false here q = carried e m p _ none (rw here) refl (rw q) (as-move none m plain (with-sem a1 (Rules.value a1 m - 1) m) _ refl refl no-mask no-mask refl refl (goes-on plain p _ _ refl r))
 
     go : (b : Bool) → Rules.exists a1 m ≡ b
         → Moved (move-by e m p) m (if b then (if eqb (Rules.value a1 m) 0 then Rules.schedule plain (block (Semaphore a1) m) else Rules.carry-on p plain (with-sem a1 (Rules.value a1 m - 1) m)) else Rules.trap p m)
@@ -230,8 +270,8 @@ verhogen now p a1 a2 a3 m r = go (Rules.may-rise a1 m) refl
     go : (b : Bool) → Rules.may-rise a1 m ≡ b → Moved (move-by e m p) m (if b then served else Rules.trap p m)
     go true may = carried e m p _ (first-wakes l) (rw may) refl refl
         (first-cases (Moved (first-wakes l) m) (line l m)
-        (λ f. nobody-wakes l m _ f (as-move none m plain (with-sem a1 (Rules.value a1 m + 1) m) _ refl refl refl no-mask no-mask refl refl (goes-on plain p _ _ r)))
-        (λ q ys f. as-move (first-wakes l) m (waking (q ∷ []) plain) (wake l m) _ refl refl refl (ap (λ (ps : List Process). mask (front ps)) (sym f)) no-mask refl refl (goes-on _ p _ (wake l m) r)))
+        (λ f. nobody-wakes l m _ f (as-move none m plain (with-sem a1 (Rules.value a1 m + 1) m) _ refl refl no-mask no-mask refl refl (goes-on plain p _ _ refl r)))
+        (λ q ys f. as-move (first-wakes l) m (waking (q ∷ []) plain) (wake l m) _ refl refl (ap (λ (ps : List Process). mask (front ps)) (sym f)) no-mask refl refl (goes-on _ p _ (wake l m) refl r)))
     go false shut = passes-or-dies e General p m (rw shut) r
 
 do-io : Serves 4 Rules.do-io
@@ -242,24 +282,24 @@ do-io now p a1 a2 a3 m r = go (ltb a1 sub-devices) refl
     e = Call now Kernel (negsuc 4) a1 a2 a3
 
     go : (b : Bool) → ltb a1 sub-devices ≡ b → Moved (move-by e m p) m (if b then Rules.schedule (naming a1 plain) (block (Device a1) m) else Rules.trap p m)
-    go true q = carried e m p _ (joins (Device a1)) (lt-leb sub-devices a1 (ltb-true a1 sub-devices q)) refl refl (blocks (Device a1) (naming a1 plain) m refl refl refl)
+    go true q = carried e m p _ (joins (Device a1)) (lt-leb sub-devices a1 (ltb-true a1 sub-devices q)) refl refl (blocks (Device a1) (naming a1 plain) m refl refl refl refl)
     go false q = passes-or-dies e General p m (le-leb sub-devices a1 (ltb-false a1 sub-devices q)) r
 
 cpu-time : Serves 5 Rules.cpu-time
 unfolding Rules.cpu-time Rules.carry-on
-cpu-time now p a1 a2 a3 m r = stays m (giving _ plain) p _ refl refl refl r
+cpu-time now p a1 a2 a3 m r = stays m (giving _ plain) p _ refl refl refl refl refl r
 
 wait-clock : Serves 6 Rules.wait-clock
 unfolding Rules.wait-clock
-wait-clock now p a1 a2 a3 m r = blocks PseudoClock plain m refl refl refl
+wait-clock now p a1 a2 a3 m r = blocks PseudoClock plain m refl refl refl refl
 
 support : Serves 7 Rules.support
 unfolding Rules.support Rules.carry-on
-support now p a1 a2 a3 m r = stays m (giving _ plain) p _ refl refl refl r
+support now p a1 a2 a3 m r = stays m (giving _ plain) p _ refl refl refl refl refl r
 
 identity : Serves 8 Rules.identity
 unfolding Rules.identity Rules.carry-on
-identity now p a1 a2 a3 m r = stays m (giving _ plain) p _ refl refl refl r
+identity now p a1 a2 a3 m r = stays m (giving _ plain) p _ refl refl refl refl refl r
 
 yield : Serves 9 Rules.yield
 unfolding Rules.yield
@@ -306,11 +346,11 @@ interrupt n x y m s k = go (eqb n 1) (eqb n 2) k
         → Moved (if b then steps-back else (if c then all-wake PseudoClock else first-wakes l)) m
         (if b then Rules.runner m (λ p. Rules.schedule plain (back m)) else (if c then Rules.tick m else Rules.device-done d m))
     go true c k = single-cases (Moved steps-back m) (m .running) s (λ r. absurd (true≢false (rw r at k))) (λ p r. steps m)
-    go false true k = as-move (all-wake PseudoClock) m (waking (line PseudoClock m) plain) (wake-all PseudoClock m) _ refl refl refl refl no-mask refl refl (resumes _ _ s)
+    go false true k = as-move (all-wake PseudoClock) m (waking (line PseudoClock m) plain) (wake-all PseudoClock m) _ refl refl refl no-mask refl refl (resumes _ _ s)
     go false false k =
         first-cases (Moved (first-wakes l) m) (line l m)
-        (λ f. nobody-wakes l m _ f (as-move none m (naming d plain) m _ refl refl refl no-mask no-mask refl refl (resumes _ m s)))
-        (λ q ys f. as-move (first-wakes l) m (naming d (waking (q ∷ []) plain)) (wake l m) _ refl refl refl (ap (λ (ps : List Process). mask (front ps)) (sym f)) no-mask refl refl (resumes _ (wake l m) s))
+        (λ f. nobody-wakes l m _ f (as-move none m (naming d plain) m _ refl refl no-mask no-mask refl refl (resumes _ m s)))
+        (λ q ys f. as-move (first-wakes l) m (naming d (waking (q ∷ []) plain)) (wake l m) _ refl refl (ap (λ (ps : List Process). mask (front ps)) (sym f)) no-mask refl refl (resumes _ (wake l m) s))
 
 performed : (e : Event) (m : Machine) → Single (m .running) → Rules.needs-runner e && first (m .running) true (λ p. false) ≡ false → Moved (move e m) m (Rules.perform e m)
 unfolding Rules.call Rules.exception Rules.needs-runner Rules.trap Rules.tlb

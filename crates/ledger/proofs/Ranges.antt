@@ -27,7 +27,7 @@ use Rattle.rules.specs.Words.{if_then_else_, first, those, any, sum, count, man
 use Rattle.rules.specs.Numbers.{time-limit, sub-devices}
 use Rattle.rules.proofs.Cases.{if-cases, first-cases, All-map, All-over, getD-cases}
 use Rattle.rules.proofs.Sums.{sum-over, sum-front}
-use Rattle.rules.specs.Machine.{Process, Seat, Machine, living, at, line, nucleus-waits, family, rid-of, longer, child-of, newborn, gap, charge, blank, processors, here, turn, idle-from, fresh}
+use Rattle.rules.specs.Machine.{Process, Seat, Machine, living, next-line, at, line, nucleus-waits, family, rid-of, longer, child-of, newborn, gap, charge, blank, processors, here, turn, idle-from, fresh}
 use Rattle.rules.proofs.Living.{living-sum, sum-killed, each-charged, all-running, fresh-living}
 use Rattle.rules.specs.Answers.{Outcome, plain, mask, doing, giving, processors-of, left-idle}
 use Rattle.rules.specs.Rules
@@ -129,7 +129,7 @@ schedule-neat : (x : Answer) (m : Machine) → Neat x → Ends-neat (Rules.sched
 unfolding Rules.schedule Rules.nobody-ready
 schedule-neat x m h =
     let same : (a : Action) → Neat (doing a x) = λ a. record { result = h .result; device = h .device } in
-    first-cases Ends-neat (m .ready)
+    first-cases Ends-neat (next-line m)
     (λ _. first-cases Ends-neat (living m) (λ _. same _) λ _ _ _. if-cases Ends-neat (Rules.worth-waiting m) (λ _. same _) (λ _. same _))
     (λ p ys _. same _)
 

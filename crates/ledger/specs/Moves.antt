@@ -1,7 +1,7 @@
--- WHO MOVES. What an accepted event does to the places: nobody moves but as one of seven rows says, and then the first
--- in the ready line runs where nobody does. So everybody else keeps their place and their order within their line.
+-- WHO MOVES. What an accepted event does to the places: nobody moves but as one of seven rows says, and then the next
+-- is chosen where nobody runs. So everybody else keeps their place and their order within their line.
 use mathlib.Core.Path.{_≡_}
-use mathlib.Core.Bool.{not}
+use mathlib.Core.Bool.{true, false, not}
 use mathlib.Core.List.{List, [], _∷_, _++_, map}
 use Prim.Native.Nat.{ℕ}
 use lib.Dec.{eqb}
@@ -9,28 +9,34 @@ use lib.IntN.{pos, negsuc}
 use lib.ListN.{getD}
 use Rattle.rules.specs.declared.Event.{Event}
 use Rattle.rules.specs.declared.Event.the-variants.{Call, Interrupt, Exception}
+use Rattle.rules.specs.declared.Action.{Action}
+use Rattle.rules.specs.declared.Part.{Part}
+use Rattle.rules.specs.declared.Part.the-variants.{Absent, Number}
 use Rattle.rules.specs.declared.Line.{Line}
 use Rattle.rules.specs.declared.Line.the-variants.{Semaphore, Device, PseudoClock}
-use Rattle.rules.specs.Words.{if_then_else_, first, those, front, rest, without}
-use Rattle.rules.specs.Machine.{Process, Waiter, Seat, Machine, at, line, family, family-of, rid-of, child-of, newborn}
+use Rattle.rules.specs.Words.{if_then_else_, first, those, front, without}
+use Rattle.rules.specs.Machine.{Process, Seat, Machine, at, line, family, family-of, rid-of, lowest-free, child-of, newborn}
 use Rattle.rules.specs.Answers.{Outcome, mask, left-idle}
 use Rattle.rules.specs.Rules.{denied, value, sub-device}
-use Rattle.ledger.specs.Kills.{passed-up, target}
+use Rattle.rules.specs.Tables.{slots-of}
+use Rattle.ledger.specs.History.{keeps-running, slot-run}
+use Rattle.ledger.specs.Choices.{Lists, lists-of, placed, joining, chosen}
+use Rattle.ledger.specs.Kills.{passed-up, target, spared}
 
 pub data Move : Type 0 where
   -- nobody moves
   none : Move
-  -- whoever runs goes to the end of the ready line
+  -- whoever runs goes to the end of its ready line
   steps-back : Move
   -- whoever runs goes to the end of a waiting line
   joins : Line → Move
-  -- the first of a waiting line, or nobody where it is empty, goes to the end of the ready line
+  -- the first of a waiting line, or nobody where it is empty, goes to the end of its ready line
   first-wakes : Line → Move
-  -- all of a waiting line go to the end of the ready line, first come first
+  -- all of a waiting line go each to the end of its ready line, first come first
   all-wake : Line → Move
-  -- a newborn of whoever runs, with a priority and a support handle, stands at the end of the ready line
+  -- a newborn of whoever runs, with a priority and a support handle, stands at the end of its ready line
   is-born : ℕ → ℕ → Move
-  -- one and its descendants are nowhere; whoever runs and is none of them goes to the end of the ready line
+  -- one and its descendants are nowhere; whoever runs and is none of them goes to the end of its ready line
   ends : ℕ → Move
 
 -- ── Which event moves whom ──
@@ -66,24 +72,15 @@ move e m = first (target e m) (if passed-up e m then none else carried-out e m) 
 
 -- ── Where everybody is then ──
 
--- whoever keeps running, the ready line, and all who wait, before anybody is chosen to run
-pub record Lists : Type 0 where
-  pub on : List Process
-  pub ready : List Process
-  pub waiting : List Waiter
-
+-- before anybody is chosen to run
 abbrev pub moved : Move → Machine → Lists
-moved none m = record { on = m .running; ready = m .ready; waiting = m .waiting }
-moved steps-back m = record { on = []; ready = m .ready ++ m .running; waiting = m .waiting }
-moved (joins l) m = record { on = []; ready = m .ready; waiting = m .waiting ++ map (λ p. record { process = p; line = l }) (m .running) }
-moved (first-wakes l) m = record { on = m .running; ready = m .ready ++ front (line l m); waiting = without (at l) (m .waiting) }
-moved (all-wake l) m = record { on = m .running; ready = m .ready ++ line l m; waiting = those (λ w. not (at l w)) (m .waiting) }
-moved (is-born priority handle) m = record { on = m .running; ready = m .ready ++ map (λ p. newborn p priority handle m) (m .running); waiting = m .waiting }
-moved (ends n) m = record {
-  on = [];
-  ready = those (λ p. not (family n p)) (m .ready ++ m .running);
-  waiting = those (λ w. not (family n (w .process))) (m .waiting);
-}
+moved none m = placed (m .running) (m .waiting) m
+moved steps-back m = joining (m .running) (placed [] (m .waiting) m)
+moved (joins l) m = placed [] (m .waiting ++ map (λ p. record { process = p; line = l }) (m .running)) m
+moved (first-wakes l) m = joining (front (line l m)) (placed (m .running) (without (at l) (m .waiting)) m)
+moved (all-wake l) m = joining (line l m) (placed (m .running) (those (λ w. not (at l w)) (m .waiting)) m)
+moved (is-born priority handle) m = joining (map (λ p. newborn p priority handle m) (m .running)) (placed (m .running) (m .waiting) m)
+moved (ends n) m = spared (family n) (joining (m .running) (placed [] (m .waiting) m))
 
 -- who runs on the other processors: as before, but for a kill
 abbrev pub others : Move → Machine → List Seat
@@ -125,15 +122,26 @@ ended (all-wake l) m = []
 ended (is-born priority handle) m = []
 ended (ends n) m = family-of n m
 
--- whoever keeps running, and the ready line behind: the first of these runs
-abbrev pub queue : Move → Machine → List Process
-queue v m = moved v m .on ++ moved v m .ready
+-- the newborn's slot
+abbrev pub newborn-part : Move → Machine → Part
+newborn-part none m = Absent
+newborn-part steps-back m = Absent
+newborn-part (joins l) m = Absent
+newborn-part (first-wakes l) m = Absent
+newborn-part (all-wake l) m = Absent
+newborn-part (is-born priority handle) m = Number (lowest-free m)
+newborn-part (ends n) m = Absent
+
+-- whoever keeps running is told to carry on, or is passed up; else the action is run for the one who is chosen, and no
+-- run where nobody is
+abbrev pub Acts : Lists → Action → Type 0
+Acts l a = first (l .on) ((keeps-running a ≡ false) × (slot-run a ≡ slots-of (chosen l .on))) λ p. keeps-running a ≡ true
 
 -- from the machine m, its gap charged, by the move v, to the outcome o
 pub record Moved (v : Move) (m : Machine) (o : Outcome) : Type 0 where
-  pub runs : o .after .running ≡ front (queue v m)
-  pub ready : o .after .ready ≡ rest (queue v m)
-  pub waiting : o .after .waiting ≡ moved v m .waiting
+  pub places : lists-of (o .after) ≡ chosen (moved v m)
+  pub action : Acts (moved v m) (o .answer .action)
+  pub newborn-told : o .answer .newborn ≡ newborn-part v m
   pub woken-mask : o .answer .woken ≡ mask (woken v m)
   pub ended-mask : o .answer .ended ≡ mask (ended v m)
   pub elsewhere : o .after .elsewhere ≡ others v m

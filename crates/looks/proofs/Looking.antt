@@ -1,42 +1,44 @@
 -- What a look tells, over tables alone: the one seat of a slot, where it is, and the mask of all.
 -- Assumes nothing.
 use mathlib.Core.Path.{_≡_, refl, sym, ap, ap₂, _∙_}
-use mathlib.Core.Bool.{Bool, true, false, _||_, true≢false}
-use mathlib.Core.List.{List, [], _∷_, _++_, map, map-append}
+use mathlib.Core.Bool.{Bool, true, false, true≢false}
+use mathlib.Core.List.{List, [], _∷_, _++_, map}
 use Prim.Native.Nat.{ℕ, zero, suc, _+_, _-_, _*_, _^_, _<_, _≤_}
 use native.Mathlib.Nat.{one-mul, zero-mul}
 use native.Mathlib.Omega.{arith}
 use native.Mathlib.Decide.{ℕ-discrete}
 use lib.Dec.{eqb, leb, ltb}
-use borrow.Author.Tests.{leb-true, leb-false, ltb-true, ltb-false, eq-eqb, ne-eqb}
+use borrow.Author.Tests.{eqb-true, leb-true, leb-false, ltb-true, ltb-false, eq-eqb, ne-eqb}
 use lib.ListN.{length, take, getD, replicate, length-take, take-append-drop, List·getD-eq-default}
 use Rattle.rules.specs.declared.Line.the-variants.{Device}
 use Rattle.rules.specs.declared.Part.the-variants.{Absent, Number}
-use Rattle.rules.specs.Words.{if_then_else_, first, those, any, sum}
+use Rattle.rules.specs.Words.{if_then_else_, first, those, any, sum, All}
 use Rattle.rules.specs.Numbers.{base-slots, most-processors}
 use Rattle.rules.proofs.Sums.{sum-over}
 use Rattle.rules.specs.Machine as book
-use Rattle.rules.specs.Machine.{Process, Waiter, on-processors, living, living-of, ceiling, blank, here}
-use Rattle.rules.specs.Tables.{idle-time}
+use Rattle.rules.specs.Machine.{Process, Waiter, is-high, living, living-of, ceiling, blank, here}
+use Rattle.rules.specs.Tables.{In-own-line, idle-time}
 use Rattle.rules.specs.Answers.{mask}
 use Rattle.rules.specs.Rules.{start, all-at, run, rule-book}
 use Rattle.rules.proofs.Examples.{call}
-use Rattle.lines.specs.Lines.{Line, entry, tally, is-zero, one, occ, mask-of-taken}
-use Rattle.lines.proofs.Occ.{occ-append, sum-slots, tally-same}
-use Rattle.seats.specs.Seats.{table, held-slot}
+use Rattle.lines.specs.Lines.{Line, entry, tally, is-zero, is-id, first-where, one, occ, mask-of-taken}
+use Rattle.lines.specs.declared.Found.{Found}
+use Rattle.lines.specs.declared.Found.the-variants as found
+use Rattle.lines.proofs.Occ.{one-other, occ-append, sum-slots, tally-same}
+use Rattle.seats.specs.Seats.{table, held-slot, seat}
 use Rattle.seats.proofs.Tabled.{table-get, table-past}
 use Rattle.seats.proofs.Told.{tally-front, tally-stop}
-use Rattle.lines.proofs.Bridge.{those-map, any-map, none-is, one-is, any-those, any-none}
+use Rattle.lines.proofs.Bridge.{those-map, any-map, none-is, one-is, any-those, any-none, found-passes}
 use Rattle.tables.specs.declared.Tables.{Tables}
 use Rattle.looks.specs.declared.Place.{Place}
-use Rattle.looks.specs.declared.Place.the-variants.{Nowhere, Running, Ready, Waiting}
+use Rattle.looks.specs.declared.Place.the-variants.{Nowhere, Running, High, Low, Waiting}
 use Rattle.looks.specs.declared.Status.the-variants.{Panicked}
 use Rattle.tables.specs.Codes.{decode, status-of}
-use Rattle.tables.specs.View.{row, waiter, occupant, away, seat-at, readies, waiters, seats, view, live, Shape}
+use Rattle.tables.specs.View.{row, waiter, occupant, away, seat-at, highs, lows, readies, waiters, seats, view, live, Shape}
 use Rattle.kin.specs.Families.{climb, parent-at}
-use Rattle.looks.specs.Looks.{seat-of, who-runs, sits, who-is-in, of-slot, parent-of, place-at, row-at, in-order, readies-in-order, waiting-in-order, standing}
-use Rattle.tables.proofs.Seats.{seats-living, occ-seats, occ-nobody, seat, seats-slots, living-seat, pos-live, live-le}
-use Rattle.tables.proofs.Away.{seated-away}
+use Rattle.looks.specs.Looks.{seat-of, who-runs, sits, who-is-in, of-slot, parent-of, processor-of, line-at, place-at, row-at, in-order, highs-in-order, lows-in-order, waiting-in-order, standing}
+use Rattle.tables.proofs.Seats as seated
+use Rattle.tables.proofs.Seats.{seats-living, occ-seats, occ-nobody, seats-slots, living-seat, pos-live, live-le}
 
 -- ---- what a taken slot has, and a free one has not
 of-taken : (x n : ℕ) → live x * n ≡ (if eqb x 0 then 0 else n)
@@ -67,6 +69,12 @@ module _ (m : Tables) (s : ℕ) where
   waits-there : (l : List ℕ) → those (λ w. sits s (w .process)) (map (waiter m) l) ≡ map (waiter m) (those (λ x. eqb x s) l)
   waits-there l = those-map (λ w. sits s (w .process)) (waiter m) l
 
+  -- a test that the rows of a line pass alike is passed so by whoever is in it
+  unlike : (t : Process → Bool) (b : Bool) (l : List ℕ) → All (λ p. t p ≡ b) (map (row m) l) → (t (row m s) ≡ b → ⊥) → occ s l ≡ 0
+  unfolding occ
+  unlike t b [] h n = refl
+  unlike t b (x ∷ l) h n = omega (arith, one-other x s (λ e. n (ap (λ y. t (row m y)) (sym e) ∙ h .0)), unlike t b l (h .1) n)
+
 -- who does not run
 occ-one : (r s : ℕ) → occ s (r ∷ []) ≡ one r s
 unfolding occ
@@ -77,7 +85,7 @@ unfolding tally
 sum-table f zero g = refl
 sum-table f (suc n) g = omega (arith, sum-table f n (λ k. g (suc k)), tally-front (λ k. f (g k)) n)
 
--- a code among those of the seats, and its slot among those that run
+-- how often a slot has a seat, by the seat's code
 held-head : (c s : ℕ) → occ s (held-slot c) ≡ (if eqb c (suc s) then 1 else 0)
 held-head zero s = occ-nobody s ∙ sym (rw (ne-eqb 0 (suc s) (λ (z : 0 ≡ suc s). let y : ⊥ = omega (arith, z) in y)) refl)
 held-head (suc r) s = occ-one r s ∙ go (ℕ-discrete r s)
@@ -86,21 +94,50 @@ held-head (suc r) s = occ-one r s ∙ go (ℕ-discrete r s)
     go (yes e) = rw (eq-eqb r s e, eq-eqb (suc r) (suc s) (ap suc e)) refl
     go (no n) = rw (ne-eqb r s n, ne-eqb (suc r) (suc s) (λ (z : suc r ≡ suc s). n (omega (arith, z)))) refl
 
-held-by : (cs : List ℕ) (s : ℕ) → any (λ c. eqb c (suc s)) cs ≡ true → 1 ≤ occ s (away cs)
-held-by [] s e = absurd (true≢false (sym e))
-held-by (c ∷ cs) s e = go (eqb c (suc s)) (held-head c s) e (held-by cs s)
+-- who has no seat's code has no seat
+held-not : (cs : List ℕ) (s k : ℕ) → first-where (is-id (suc s)) k cs ≡ found.Nothing → occ s (away cs) ≡ 0
+unfolding first-where
+held-not [] s k e = occ-nobody s
+held-not (c ∷ cs) s k e = go (eqb c (suc s)) (held-head c s) e (held-not cs s (suc k))
   where
-    go : (b : Bool) → occ s (held-slot c) ≡ (if b then 1 else 0) → (b || any (λ c. eqb c (suc s)) cs) ≡ true → (any (λ c. eqb c (suc s)) cs ≡ true → 1 ≤ occ s (away cs)) → 1 ≤ occ s (held-slot c ++ away cs)
-    go true h e ih = omega (arith, occ-append s (held-slot c) (away cs), h)
-    go false h e ih = omega (arith, occ-append s (held-slot c) (away cs), ih e)
-
-held-not : (cs : List ℕ) (s : ℕ) → any (λ c. eqb c (suc s)) cs ≡ false → occ s (away cs) ≡ 0
-held-not [] s e = occ-nobody s
-held-not (c ∷ cs) s e = go (eqb c (suc s)) (held-head c s) e (held-not cs s)
-  where
-    go : (b : Bool) → occ s (held-slot c) ≡ (if b then 1 else 0) → (b || any (λ c. eqb c (suc s)) cs) ≡ false → (any (λ c. eqb c (suc s)) cs ≡ false → occ s (away cs) ≡ 0) → occ s (held-slot c ++ away cs) ≡ 0
-    go true h e ih = absurd (true≢false e)
+    go : (b : Bool) → occ s (held-slot c) ≡ (if b then 1 else 0) → (if b then found.At k else first-where (is-id (suc s)) (suc k) cs) ≡ found.Nothing → (first-where (is-id (suc s)) (suc k) cs ≡ found.Nothing → occ s (away cs) ≡ 0) → occ s (held-slot c ++ away cs) ≡ 0
+    go true h e ih = let z : _≡_ {A = ℕ} 0 1 = cc in absurd (omega arith)
     go false h e ih = omega (arith, occ-append s (held-slot c) (away cs), h, ih e)
+
+-- ---- the processor that a slot runs on, by the codes of the seats
+module _ (m : Tables) (s : ℕ) where
+  as-list : Found → List ℕ
+  as-list (found.At k) = k ∷ []
+  as-list found.Nothing = []
+
+  in-seat : (c : ℕ) → any (sits s) (map (row m) (held-slot c)) ≡ eqb c (suc s)
+  in-seat c = go (eqb c (suc s)) (held-head c s)
+    where
+      go : (b : Bool) → occ s (held-slot c) ≡ (if b then 1 else 0) → any (sits s) (map (row m) (held-slot c)) ≡ b
+      go true e = stands m s (held-slot c) e
+      go false e = absent m s (held-slot c) e
+
+  nobody-on : (n k : ℕ) (l i : ℕ → ℕ) → processor-of s k (table n (λ j. seat (row m) 0 (l j) (i j))) ≡ []
+  unfolding processor-of
+  nobody-on zero k l i = refl
+  nobody-on (suc n) k l i = nobody-on n (suc k) (λ j. l (suc j)) (λ j. i (suc j))
+
+  nowhere : (cs : List ℕ) (k : ℕ) → ((j : ℕ) → getD cs j 0 ≡ 0) → first-where (is-id (suc s)) k cs ≡ found.Nothing
+  unfolding first-where
+  nowhere [] k none = refl
+  nowhere (c ∷ cs) k none = rw (ne-eqb c (suc s) (λ (z : c ≡ suc s). let y : ⊥ = omega (arith, z, none 0) in y)) (nowhere cs (suc k) (λ j. none (suc j)))
+
+  processor-told : (cs : List ℕ) (n k : ℕ) (l i : ℕ → ℕ) → ((j : ℕ) → n ≤ j → getD cs j 0 ≡ 0)
+      → processor-of s k (table n (λ j. seat (row m) (getD cs j 0) (l j) (i j))) ≡ as-list (first-where (is-id (suc s)) k cs)
+  unfolding processor-of first-where as-list
+  processor-told [] n k l i none = nobody-on n k l i
+  processor-told (c ∷ cs) zero k l i none = sym (ap as-list (nowhere (c ∷ cs) k (λ j. none j (omega arith))))
+  processor-told (c ∷ cs) (suc n) k l i none = go (eqb c (suc s)) (in-seat c) (processor-told cs n (suc k) (λ j. l (suc j)) (λ j. i (suc j)) (λ j h. none (suc j) (omega (arith, h))))
+    where
+      go : (b : Bool) → any (sits s) (map (row m) (held-slot c)) ≡ b → processor-of s (suc k) (table n (λ j. seat (row m) (getD cs j 0) (l (suc j)) (i (suc j)))) ≡ as-list (first-where (is-id (suc s)) (suc k) cs)
+          → (if any (sits s) (map (row m) (held-slot c)) then k ∷ [] else processor-of s (suc k) (table n (λ j. seat (row m) (getD cs j 0) (l (suc j)) (i (suc j))))) ≡ as-list (if b then found.At k else first-where (is-id (suc s)) (suc k) cs)
+      go true e ih = rw e
+      go false e ih = rw e ih
 
 module _ (m : Tables) (g : Shape m) where
   -- ---- who
@@ -125,16 +162,6 @@ module _ (m : Tables) (g : Shape m) where
   pub idle-told : (k : ℕ) → seat-of k (view m) .idle ≡ getD (m .idles) k 0
   idle-told k = ap (λ (x : book.Seat). x .idle) (seat-told k)
 
-  -- who runs, by slots
-  runners-rows : on-processors (view m) ≡ map (row m) (occupant (m .running) ++ away (m .runners))
-  unfolding on-processors
-  runners-rows =
-      ap (λ (l : List Process). map (row m) (occupant (m .running)) ++ l) (seated-away (row m) (m .runners) (m .processors) (λ k. getD (m .lasts) k 0) (λ k. getD (m .idles) k 0) (g .no-runner))
-      ∙ sym (map-append (row m) (occupant (m .running)) (away (m .runners)))
-
-  on-seats : (s : ℕ) → occ s (occupant (m .running) ++ away (m .runners)) ≡ occ s (occupant (m .running)) + occ s (away (m .runners))
-  on-seats s = occ-append s (occupant (m .running)) (away (m .runners))
-
   -- ---- the one seat of a slot
   rows-in : (s : ℕ) → who-is-in s (view m) ≡ map (row m) (those (λ x. eqb x s) (seats m))
   rows-in s = ap (those (sits s)) (seats-living m g) ∙ those-map (sits s) (row m) (seats m)
@@ -145,7 +172,7 @@ module _ (m : Tables) (g : Shape m) where
     where
       go : Dec (occ s (seats m) ≡ 0) → occ s (seats m) ≡ 0
       go (yes z) = z
-      go (no n) = absurd (omega (arith, e, seat m g s (omega arith) .alive))
+      go (no n) = absurd (omega (arith, e, seated.seat m g s (omega arith) .alive))
 
   pub nobody-in : (s : ℕ) → getD (m .ids) s 0 ≡ 0 → who-is-in s (view m) ≡ []
   nobody-in s e = rows-in s ∙ ap (map (row m)) (none-is s (seats m) (free-seat s e))
@@ -196,61 +223,83 @@ module _ (m : Tables) (g : Shape m) where
 
   -- ---- the place
   module _ (s : ℕ) where
+    on-processor : processor-of s 0 (view m .elsewhere) ≡ as-list m s (first-where (is-id (suc s)) 0 (m .runners))
+    on-processor = processor-told m s (m .runners) (m .processors) 0 (λ k. getD (m .lasts) k 0) (λ k. getD (m .idles) k 0) (g .no-runner)
+
+    pub place-running : (k : ℕ) → first-where (is-id (suc s)) 0 (m .runners) ≡ found.At k → place-at s (view m) ≡ Running k
+    unfolding place-at as-list
+    place-running k e = ap (λ (l : List ℕ). first l (line-at s (view m)) Running) (on-processor ∙ ap (as-list m s) e)
+
     by-parts : Bool → Bool → List ℕ → Place
-    by-parts r q w = if r then Running else (if q then Ready else first (map (waiter m) w) Nowhere (λ x. Waiting (x .line)))
+    by-parts h l w = if h then High else (if l then Low else first (map (waiter m) w) Nowhere (λ x. Waiting (x .line)))
 
-    parts : (r q : Bool) (w : List ℕ) → any (sits s) (on-processors (view m)) ≡ r → any (sits s) (view m .ready) ≡ q → those (λ x. eqb x s) (waiters m) ≡ w → place-at s (view m) ≡ by-parts r q w
-    unfolding place-at by-parts
-    parts r q w a b d =
-        let e = waits-there m s (waiters m) ∙ ap (map (waiter m)) d in
-        λ i. if a i then Running else (if b i then Ready else first (e i) Nowhere (λ x. Waiting (x .line)))
+    in-lines : occ s (readies m) ≡ occ s (highs m) + occ s (lows m)
+    in-lines = occ-append s (highs m) (lows m)
 
-    pub place-none : getD (m .ids) s 0 ≡ 0 → place-at s (view m) ≡ Nowhere
-    unfolding by-parts
-    place-none e =
-        let z = free-seat s e in
-        parts false false []
-        (ap (any (sits s)) runners-rows ∙ absent m s (occupant (m .running) ++ away (m .runners)) (omega (arith, occ-seats m s, on-seats s)))
-        (absent m s (readies m) (omega (arith, occ-seats m s)))
-        (none-is s (waiters m) (omega (arith, occ-seats m s)))
+    -- it runs on no processor
+    module _ (idle : first-where (is-id (suc s)) 0 (m .runners) ≡ found.Nothing) where
+      parts : (h l : Bool) (w : List ℕ) → any (sits s) (view m .high) ≡ h → any (sits s) (view m .low) ≡ l → those (λ x. eqb x s) (waiters m) ≡ w → place-at s (view m) ≡ by-parts h l w
+      unfolding place-at line-at by-parts as-list
+      parts h l w a b d =
+          let e = waits-there m s (waiters m) ∙ ap (map (waiter m)) d in
+          ap (λ (ks : List ℕ). first ks (line-at s (view m)) Running) (on-processor ∙ ap (as-list m s) idle)
+          ∙ (λ i. if a i then High else (if b i then Low else first (e i) Nowhere (λ x. Waiting (x .line))))
 
+      pub place-none : getD (m .ids) s 0 ≡ 0 → place-at s (view m) ≡ Nowhere
+      unfolding by-parts
+      place-none e =
+          let z = free-seat s e in
+          parts false false []
+          (absent m s (highs m) (omega (arith, occ-seats m s, in-lines)))
+          (absent m s (lows m) (omega (arith, occ-seats m s, in-lines)))
+          (none-is s (waiters m) (omega (arith, occ-seats m s)))
+
+      module _ (k : s < base-slots) where
+        pub place-waiting : (getD (m .lines) s 0 ≡ 0 → ⊥) → place-at s (view m) ≡ Waiting (decode (getD (m .lines) s 0))
+        unfolding by-parts
+        place-waiting n =
+            let h = g .homes s k in
+            let w = g .coded s k in
+            let u = pos-live (getD (m .lines) s 0) (omega arith) in
+            let v = live-le (getD (m .ids) s 0) in
+            parts false false (s ∷ [])
+            (absent m s (highs m) (omega (arith, occ-seats m s, in-lines)))
+            (absent m s (lows m) (omega (arith, occ-seats m s, in-lines)))
+            (one-is s (waiters m) (omega arith))
+
+        -- who does not wait either is ready, in the line of its own priority
+        module _ (rest : m .running ≡ base-slots) (uncoded : getD (m .lines) s 0 ≡ 0) (there : getD (m .ids) s 0 ≡ 0 → ⊥) (own : In-own-line (view m .high) (view m .low)) where
+          here-nobody : occ s (occupant (m .running)) ≡ 0
+          here-nobody = ap (λ x. occ s (occupant x)) rest ∙ occ-nobody s
+
+          not-waiting : occ s (waiters m) ≡ 0
+          not-waiting = sym (g .coded s k) ∙ ap live uncoded
+
+          is-ready : occ s (highs m) + occ s (lows m) ≡ 1
+          is-ready = omega (arith, in-lines, g .homes s k, pos-live (getD (m .ids) s 0) (omega arith), here-nobody, held-not (m .runners) s 0 idle, not-waiting, occ-seats m s)
+
+          pub place-high : is-high (row m s) ≡ true → place-at s (view m) ≡ High
+          unfolding by-parts
+          place-high e =
+              let none : occ s (lows m) ≡ 0 = unlike m s is-high false (lows m) (own .1) (λ f. true≢false (sym e ∙ f)) in
+              parts true _ _ (stands m s (highs m) (omega (arith, is-ready, none))) refl refl
+
+          pub place-low : is-high (row m s) ≡ false → place-at s (view m) ≡ Low
+          unfolding by-parts
+          place-low e =
+              let none : occ s (highs m) ≡ 0 = unlike m s is-high true (highs m) (own .0) (λ f. true≢false (sym f ∙ e)) in
+              parts false true _ (absent m s (highs m) none) (stands m s (lows m) (omega (arith, is-ready, none))) refl
+
+    -- what is no slot is nowhere
     pub place-out : base-slots ≤ s → place-at s (view m) ≡ Nowhere
-    place-out h = place-none (beyond (m .ids) base-slots (g .ids-long) s h)
-
-    module _ (k : s < base-slots) where
-      pub place-running : any (λ c. eqb c (suc s)) (m .runners) ≡ true → place-at s (view m) ≡ Running
-      unfolding by-parts
-      place-running e =
-          let a = held-by (m .runners) s e in
-          let h = g .homes s k in
-          let v = live-le (getD (m .ids) s 0) in
-          parts true _ _ (ap (any (sits s)) runners-rows ∙ stands m s (occupant (m .running) ++ away (m .runners)) (omega (arith, occ-seats m s, on-seats s))) refl refl
-
-      pub place-waiting : (getD (m .lines) s 0 ≡ 0 → ⊥) → place-at s (view m) ≡ Waiting (decode (getD (m .lines) s 0))
-      unfolding by-parts
-      place-waiting n =
-          let h = g .homes s k in
-          let w = g .coded s k in
-          let u = pos-live (getD (m .lines) s 0) (omega arith) in
-          let v = live-le (getD (m .ids) s 0) in
-          parts false false (s ∷ [])
-          (ap (any (sits s)) runners-rows ∙ absent m s (occupant (m .running) ++ away (m .runners)) (omega (arith, occ-seats m s, on-seats s)))
-          (absent m s (readies m) (omega (arith, occ-seats m s)))
-          (one-is s (waiters m) (omega arith))
-
-      pub place-ready : m .running ≡ base-slots → any (λ c. eqb c (suc s)) (m .runners) ≡ false → getD (m .lines) s 0 ≡ 0 → (getD (m .ids) s 0 ≡ 0 → ⊥) → place-at s (view m) ≡ Ready
-      unfolding by-parts
-      place-ready r n z a =
-          let h = g .homes s k in
-          let w = g .coded s k in
-          let u = ap live z in
-          let v = pos-live (getD (m .ids) s 0) (omega arith) in
-          let o = ap (λ x. occ s (occupant x)) r ∙ occ-nobody s in
-          let b = held-not (m .runners) s n in
-          parts false true []
-          (ap (any (sits s)) runners-rows ∙ absent m s (occupant (m .running) ++ away (m .runners)) (omega (arith, on-seats s)))
-          (stands m s (readies m) (omega (arith, occ-seats m s)))
-          (none-is s (waiters m) (omega arith))
+    place-out h = place-none unseated (beyond (m .ids) base-slots (g .ids-long) s h)
+      where
+        unseated : first-where (is-id (suc s)) 0 (m .runners) ≡ found.Nothing
+        unseated = go (first-where (is-id (suc s)) 0 (m .runners)) refl
+          where
+            go : (f : Found) → first-where (is-id (suc s)) 0 (m .runners) ≡ f → f ≡ found.Nothing
+            go found.Nothing e = refl
+            go (found.At k) e = absurd (omega (arith, h, g .in-seats k, eqb-true (getD (m .runners) k 0) (suc s) (found-passes (is-id (suc s)) (m .runners) k e)))
 
   -- ---- the whole row
   pub row-out : (s : ℕ) → base-slots ≤ s → row-at s (view m) ≡ record { id = 0; parent = 0; customer = 0; priority = 0; handle = 0; time = 0; place = Nowhere }
@@ -321,8 +370,11 @@ line-whole q n h =
     sym (take-append-drop n q) ∙ ap (λ (l : List ℕ). take n q ++ l) (h .blank ∙ ap (λ k. replicate (base-slots - k) 0) (sym long)) in
     λ i. record { slots = all i; count = sym long i }
 
-pub readies-told : (m : Tables) → Shape m → record { slots = m .ready; count = m .nready } ≡ readies-in-order (view m)
-readies-told m g = line-whole (m .ready) (m .nready) (g .ready-line) ∙ ap in-order (sym (slots-back (λ (p : Process). p .slot) (row m) (λ s. refl) (readies m)))
+pub highs-told : (m : Tables) → Shape m → record { slots = m .high; count = m .nhigh } ≡ highs-in-order (view m)
+highs-told m g = line-whole (m .high) (m .nhigh) (g .high-line) ∙ ap in-order (sym (slots-back (λ (p : Process). p .slot) (row m) (λ s. refl) (highs m)))
+
+pub lows-told : (m : Tables) → Shape m → record { slots = m .low; count = m .nlow } ≡ lows-in-order (view m)
+lows-told m g = line-whole (m .low) (m .nlow) (g .low-line) ∙ ap in-order (sym (slots-back (λ (p : Process). p .slot) (row m) (λ s. refl) (lows m)))
 
 pub waiting-told : (m : Tables) → Shape m → record { slots = m .waits; count = m .nwaits } ≡ waiting-in-order (view m)
 waiting-told m g = line-whole (m .waits) (m .nwaits) (g .waits-line) ∙ ap in-order (sym (slots-back (λ (w : Waiter). w .process .slot) (waiter m) (λ s. refl) (waiters m)))
@@ -335,8 +387,8 @@ one-result x r s p q = p ∙ sym q
 six : book.Machine
 six = run (start base-slots 1 1000 (1 ∷ replicate 31 0) (base-slots ∷ replicate 8 0)) (all-at 0 (call 1500 1 0 0 0 ∷ call 1600 3 0 0 0 ∷ call 1700 3 0 0 0 ∷ call 1800 6 0 0 0 ∷ call 1900 4 0 0 0 ∷ call 2000 5 32 7 0 ∷ []))
 
-places-seen : map (λ s. place-at s six) (0 ∷ 1 ∷ 2 ∷ base-slots ∷ []) ≡ Running ∷ Waiting (Device 32) ∷ Nowhere ∷ Nowhere ∷ []
-unfolding rule-book six place-at
+places-seen : map (λ s. place-at s six) (0 ∷ 1 ∷ 2 ∷ base-slots ∷ []) ≡ Running 0 ∷ Waiting (Device 32) ∷ Nowhere ∷ Nowhere ∷ []
+unfolding rule-book six place-at line-at processor-of
 places-seen = refl
 
 numbers-seen : map (λ s. of-slot (λ p. p .id) s six ∷ of-slot parent-of s six ∷ of-slot (λ p. p .time) s six ∷ []) (0 ∷ 1 ∷ 2 ∷ []) ≡ (1 ∷ 0 ∷ 700 ∷ []) ∷ (2 ∷ 1 ∷ 300 ∷ []) ∷ (0 ∷ 0 ∷ 0 ∷ []) ∷ []

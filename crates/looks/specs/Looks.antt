@@ -1,7 +1,7 @@
 -- What a host sees of a machine: each thing said of the rule book's machine, for every slot and every number.
 use mathlib.Core.Bool.{Bool}
-use mathlib.Core.List.{List, _++_, map}
-use Prim.Native.Nat.{ℕ, _-_}
+use mathlib.Core.List.{List, [], _∷_, _++_, map}
+use Prim.Native.Nat.{ℕ, suc, _-_}
 use lib.Dec.{eqb}
 use lib.ListN.{length, getD, replicate}
 use Rattle.rules.specs.declared.Part.{Part}
@@ -10,9 +10,9 @@ use Rattle.rules.specs.Words.{if_then_else_, first, those, any}
 use Rattle.rules.specs.Numbers.{base-slots}
 use Rattle.rules.specs.Tables.{slots-of, idle-time}
 use Rattle.rules.specs.Machine as book
-use Rattle.rules.specs.Machine.{Process, on-processors, living, blank}
+use Rattle.rules.specs.Machine.{Process, living, blank}
 use Rattle.looks.specs.declared.Place.{Place}
-use Rattle.looks.specs.declared.Place.the-variants.{Nowhere, Running, Ready, Waiting}
+use Rattle.looks.specs.declared.Place.the-variants.{Nowhere, Running, High, Low, Waiting}
 use Rattle.looks.specs.declared.Status.{Status}
 use Rattle.looks.specs.declared.Status.the-variants.{On, Halted, Panicked}
 use Rattle.looks.specs.declared.Totals.{Totals}
@@ -47,12 +47,21 @@ parent-of p = first (p .ancestors) 0 λ n. n
 
 -- ── Where ──
 
--- running on some processor, in the ready line, in the waiting line that it came to, or nowhere
-unfoldable pub place-at : ℕ → book.Machine → Place
-place-at s m =
-    if any (sits s) (on-processors m) then Running
-    else (if any (sits s) (m .ready) then Ready
+-- the number, counted from k, of the processor on which the process in a slot runs: none, or one
+unfoldable pub processor-of : ℕ → ℕ → List book.Seat → List ℕ
+processor-of s k [] = []
+processor-of s k (x ∷ xs) = if any (sits s) (x .running) then k ∷ [] else processor-of s (suc k) xs
+
+-- in the high or the low ready line, in the waiting line that it came to, or nowhere
+unfoldable pub line-at : ℕ → book.Machine → Place
+line-at s m =
+    if any (sits s) (m .high) then High
+    else (if any (sits s) (m .low) then Low
     else first (those (λ w. sits s (w .process)) (m .waiting)) Nowhere (λ w. Waiting (w .line)))
+
+-- running on a processor, or in a line, or nowhere: between events nobody runs but in a seat
+unfoldable pub place-at : ℕ → book.Machine → Place
+place-at s m = first (processor-of s 0 (m .elsewhere)) (line-at s m) Running
 
 -- the whole row of a slot
 abbrev pub row-at : ℕ → book.Machine → Row
@@ -70,9 +79,12 @@ row-at s m = record {
 abbrev pub in-order : List ℕ → Order
 in-order l = record { slots = l ++ replicate (base-slots - length l) 0; count = length l }
 
--- the ready line, first come first; all who wait, in the order in which they came
-abbrev pub readies-in-order : book.Machine → Order
-readies-in-order m = in-order (slots-of (m .ready))
+-- the two ready lines, first come first; all who wait, in the order in which they came
+abbrev pub highs-in-order : book.Machine → Order
+highs-in-order m = in-order (slots-of (m .high))
+
+abbrev pub lows-in-order : book.Machine → Order
+lows-in-order m = in-order (slots-of (m .low))
 
 abbrev pub waiting-in-order : book.Machine → Order
 waiting-in-order m = in-order (map (λ w. w .process .slot) (m .waiting))

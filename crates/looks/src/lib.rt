@@ -3,19 +3,20 @@
 // customers are bytes, as in answers. Whether somebody is in a slot is told by the id (0 is nobody's) and by the place;
 // the other numbers are 0 where nobody is there.
 ghost use mathlib.Core.Path.{_≡_};
-ghost use lib.Dec.{eqb};
 ghost use lib.ListN.{length};
-ghost use Rattle.rules.specs.Words.{any};
-ghost use Rattle.lines.specs.Lines.{entry, tally};
-ghost use Prim.Native.Nat.{_<_, _≤_};
+ghost use Rattle.lines.specs.Lines.{entry, is-id, first-where, tally};
+ghost use Rattle.lines.specs.declared.Found.the-variants.{Nothing};
+ghost use Prim.Native.Nat.{_+_, _<_, _≤_};
 ghost use Rattle.rules.specs.Numbers.{base-slots, most-processors, time-limit};
 ghost use Rattle.rules.specs.Rules.{value};
 ghost use Rattle.rules.specs.Answers.{mask};
 ghost use Rattle.rules.specs.Machine.{living, living-of, ceiling};
 ghost use Rattle.tables.specs.Codes.{decode};
 ghost use Rattle.tables.specs.View.{view, Good};
-ghost use Rattle.looks.specs.Looks.{seat-of, who-runs, place-at, row-at, readies-in-order, waiting-in-order, sums, standing};
+ghost use Rattle.looks.specs.Looks.{seat-of, who-runs, place-at, row-at, highs-in-order, lows-in-order, waiting-in-order, sums, standing};
+use choices::is_high;
 use kin::parent_of;
+use lines::Found;
 use lines::living_of;
 use rules::CUSTOMERS;
 use rules::Line;
@@ -28,16 +29,18 @@ use tables::FIRST_DEVICE;
 use tables::LAST_SEMAPHORE;
 use tables::Tables;
 
-// Where a process is: "nobody there", running on some processor, in the ready line, or in a waiting line.
+// Where a process is: "nobody there", running on a processor, in the high or the low ready line, or in a waiting line.
 pub enum Place {
     Nowhere,
-    Running,
-    Ready,
+    Running(u8),
+    High,
+    Low,
     Waiting(Line),
 }
 
 // All that the tables have of the process in a slot: its id, the id of its parent (0 for id 1), its customer, its
-// priority ("kept, not used for order"), its support handle ("0 is none"), its time, and where it is.
+// priority (the whole a2 of its birth, of which the rest by 256 is read), its support handle ("0 is none"), its time,
+// and where it is.
 pub struct Row {
     pub id: u32,
     pub parent: u32,
@@ -124,19 +127,19 @@ pub fn idle(t: Tables, processor: u8) -> u64
     t.idles[k]
 }
 
-// Whoever has this code runs on some processor.
-fn runs_on(runners: &[u8; PROCESSORS], code: u8) -> bool
+// The processor that whoever has this code runs on.
+fn runs_on(runners: &[u8; PROCESSORS], code: u8) -> Found
     requires { ⌜ length (now runners) ≡ most-processors ⌝ }
-    ensures { λ r. ⌜ r ≡ any (λ c. eqb c code) (now (runners .entry)) ⌝ }
+    ensures { λ r. ⌜ r ≡ first-where (is-id code) 0 (now (runners .entry)) ⌝ }
 {
     let mut k = 0;
     while k < PROCESSORS {
         if runners[k] == code {
-            return true;
+            return Found::At(k);
         }
         k += 1;
     }
-    false
+    Found::Nothing
 }
 
 // Idle time of all processors.
@@ -161,23 +164,34 @@ pub fn alive(t: Tables) -> u64
     t.taken
 }
 
-// Where the process in a slot is: each of the living is in one place.
-fn place_of(t: Tables, slot: usize) -> Place
-    requires { ⌜ Good t × (slot < base-slots) ⌝ }
+// Where the process in a slot is, which runs on no processor.
+fn line_in(t: Tables, slot: usize) -> Place
+    requires { ⌜ Good t × (slot < base-slots) × (first-where (is-id (slot + 1)) 0 (t .runners) ≡ Nothing) ⌝ }
     ensures { λ r. ⌜ r ≡ place-at slot (view t) ⌝ }
 {
-    if runs_on(&t.runners, slot as u8 + 1) {
-        return Place::Running;
-    }
     let code = t.lines[slot];
     if code == 0 {
         if t.ids[slot] == 0 {
             return Place::Nowhere;
         }
-        return Place::Ready;
+        if is_high(t.priorities[slot]) {
+            return Place::High;
+        }
+        return Place::Low;
     }
     let l = line_of(code);
     Place::Waiting(l)
+}
+
+// Where the process in a slot is: each of the living is in one place.
+fn place_of(t: Tables, slot: usize) -> Place
+    requires { ⌜ Good t × (slot < base-slots) ⌝ }
+    ensures { λ r. ⌜ r ≡ place-at slot (view t) ⌝ }
+{
+    let Found::At(k) = runs_on(&t.runners, slot as u8 + 1) else {
+        return line_in(t, slot);
+    };
+    Place::Running(k as u8)
 }
 
 // The whole row of the process in a slot.
@@ -215,15 +229,27 @@ pub fn row_in(t: Tables, slot: u8) -> Row
     }
 }
 
-// The ready line, first come first.
-pub fn ready(t: Tables) -> Order
+// The high ready line, first come first.
+pub fn high(t: Tables) -> Order
     requires { ⌜ Good t ⌝ }
-    ensures { λ r. ⌜ r ≡ readies-in-order (view t) ⌝ }
+    ensures { λ r. ⌜ r ≡ highs-in-order (view t) ⌝ }
 {
-    let slots = t.ready;
+    let slots = t.high;
     Order {
         slots: slots,
-        count: t.nready,
+        count: t.nhigh,
+    }
+}
+
+// The low ready line, first come first.
+pub fn low(t: Tables) -> Order
+    requires { ⌜ Good t ⌝ }
+    ensures { λ r. ⌜ r ≡ lows-in-order (view t) ⌝ }
+{
+    let slots = t.low;
+    Order {
+        slots: slots,
+        count: t.nlow,
     }
 }
 

@@ -3,6 +3,7 @@
 pub mod Examples
 pub mod Edges
 pub mod Several
+pub mod Alarms
 -- That every event keeps the tables' rule, and what it is proved by:
 pub mod Tables
 pub mod Cases
@@ -14,6 +15,7 @@ pub mod Walk
 pub mod Sound
 pub mod Kin
 pub mod Places
+pub mod Lined
 pub mod Laws
 pub mod Status
 -- Several processors: a seat is taken and taken back; an event at any processor; the mask of processors:

@@ -67,7 +67,7 @@ unfolding kill birth left-idle
 unnamed k = record {
   begins = λ m h. record { still-blank = h; bit-clear = no-bits k };
   tells = λ a r d w x m h. record { still-blank = h .still-blank; bit-clear = h .bit-clear };
-  moves = λ r q w x m s h. record { still-blank = h .still-blank; bit-clear = h .bit-clear };
+  moves = λ r hs ls n w x m s h. record { still-blank = h .still-blank; bit-clear = h .bit-clear };
   stops = λ s x m h. record { still-blank = h .still-blank; bit-clear = h .bit-clear };
   kills = λ n m h. record {
     still-blank = rid-at n k (m .elsewhere) ∙ ap (rid-of n) h;

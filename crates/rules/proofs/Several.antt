@@ -93,6 +93,18 @@ edges =
     -- anybody
     ∷ edge 3 (both-run ++ on 1 (call 40 5 0 0 0) ∷ on 2 (Interrupt 45 1 0 0) ∷ on 2 (Interrupt 50 3 1 0) ∷ on 1 (Interrupt 60 2 0 0) ∷ [])
     (printed 0 Wait Silent Absent (Number 0) 0 0 ∷ no 4 ∷ printed 0 (Run 1) Silent Absent (Number 0) 2 0 ∷ does Wait ∷ [])
+    -- 02, (vi): the count of four is one for the machine. Ids 2 and 3 are high, id 4 and id 1 low; four high ones are
+    -- chosen, on processors 1, 1, 0 and 1, and then id 4, on processor 0
+    ∷ edge 2 (on 0 (call 0 1 0 1 0)
+    ∷ on 0 (call 0 1 0 1 0)
+    ∷ on 0 (call 0 1 0 0 0)
+    ∷ on 1 (Interrupt 0 2 0 0)
+    ∷ on 1 (call 0 10 0 0 0)
+    ∷ on 0 (call 0 10 0 0 0)
+    ∷ on 1 (call 0 10 0 0 0)
+    ∷ on 0 (call 0 10 0 0 0)
+    ∷ [])
+    (does (Run 1) ∷ does (Run 2) ∷ does (Run 1) ∷ does (Run 2) ∷ does (Run 3) ∷ [])
     -- eight processors: id 1 on processor 0 kills id 2, which has run on processor 7
     ∷ edge 8 (on 0 (call 0 1 0 0 0) ∷ on 7 (Interrupt 0 2 0 0) ∷ on 0 (call 0 2 2 0 0) ∷ []) (does (Run 1) ∷ ends (Run 0) (Says (pos 0)) 2 128 ∷ [])
     ∷ []

@@ -18,7 +18,7 @@ use Rattle.rules.specs.declared.Mode.the-variants.{Kernel}
 use Rattle.rules.specs.Words.{if_then_else_, any, sum, count, many, All}
 use Rattle.rules.specs.Numbers.{top, most-processors, value-too-large, ceilings-not-allowed, processors-not-allowed}
 use Rattle.rules.proofs.Cases.{if-cases}
-use Rattle.rules.specs.Machine.{Process, Machine, seated-in, on-processors, living, blank, processors, here, turn, idle-from, fresh}
+use Rattle.rules.specs.Machine.{Process, Machine, seated-in, ready, on-processors, living, blank, processors, here, turn, idle-from, fresh}
 use Rattle.rules.specs.Tables.{Tables, Rests}
 use Rattle.rules.specs.Starts.{started, too-large, not-allowed, bad-number, start-refusal}
 use Rattle.rules.specs.Rules.{step, reaches, refused, arrive, run, least-ceilings, nothing-left, start}
@@ -27,6 +27,7 @@ use Rattle.rules.proofs.Sound.{or-left, or-right, below, eqb-swap, seat
 use Rattle.rules.specs.Tables.{Allowed, Sound}
 use Rattle.rules.proofs.Kin.{Kin, stays-kin, fresh-kin}
 use Rattle.rules.proofs.Places.{stays-placed}
+use Rattle.rules.proofs.Lined.{stays-lined}
 use Rattle.rules.proofs.Status.{stays-scheduled}
 use Rattle.rules.proofs.Laws.{sized, blank-still, accounted, limited, within}
 use Rattle.rules.proofs.Arrivals.{arrives-in, no-such}
@@ -46,6 +47,7 @@ module _ (slots sems customers seats : ℕ) where
       let size = sized slots sems seats (m .ceilings) m e one (t .slots-there, t .sems-there, t .processors-there, refl) in
       let s = settled m e (sound m t, one, t .one-each) in
       let k = stays-kin m e one (sound m t) (kin m t) in
+      let l = stays-lined m e one (record { own-line = t .own-line; in-a-row = t .in-a-row }) in
       record {
         slots-there = size .0;
         sems-there = size .1;
@@ -57,6 +59,8 @@ module _ (slots sems customers seats : ℕ) where
         ceilings-kept = s .0 .kept;
         one-runs = s .1;
         one-each = s .2;
+        own-line = l .own-line;
+        in-a-row = l .in-a-row;
         lines = stays-placed m e one (record { lines = t .lines }) .lines;
         values = within m e one (t .values);
         times = accounted m e one (t .times);
@@ -86,6 +90,8 @@ module _ (slots sems customers seats : ℕ) where
             ceilings-kept = s .kept;
             one-runs = one .0;
             one-each = one .1;
+            own-line = t .own-line;
+            in-a-row = t .in-a-row;
             lines = t .lines;
             values = t .values;
             times = omega (arith, t .times, idle-taken k m l, same-taken k m l .sums (λ p. p .time));
@@ -147,6 +153,8 @@ fresh-tables slots others now values ceilings may low =
       ceilings-kept = s .0 .kept;
       one-runs = refl;
       one-each = s .2;
+      own-line = (tt, tt);
+      in-a-row = omega arith;
       lines = tt;
       values = low;
       times = rw (fresh-living slots others now values ceilings) (omega (arith, idle-none others now));
@@ -184,13 +192,13 @@ fit slots sems customers seats m t =
 
 -- whoever runs is in nobody else's slot: what is written to its row changes no other row
 pub apart : (slots sems customers seats : ℕ) (p : Process) (m : Machine) → Tables slots sems customers seats m → m .running ≡ p ∷ []
-    → All (λ q. eqb (p .slot) (q .slot) ≡ false) (m .ready) × All (λ q. eqb (p .slot) (q .slot) ≡ false) (map process (m .waiting)) × All (λ q. eqb (p .slot) (q .slot) ≡ false) (seated-in (m .elsewhere))
+    → All (λ q. eqb (p .slot) (q .slot) ≡ false) (ready m) × All (λ q. eqb (p .slot) (q .slot) ≡ false) (map process (m .waiting)) × All (λ q. eqb (p .slot) (q .slot) ≡ false) (seated-in (m .elsewhere))
 apart slots sems customers seats p m t r =
     let f : Process → ℕ = λ q. count (eqb (p .slot) (q .slot)) in
     let one : sum f (m .running) ≡ 1 = rw (r, eq-eqb (p .slot) (p .slot) refl) in
     let all : sum f (living m) ≤ 1 = omega (arith, t .in-slots (p .slot), count-le (ltb (p .slot) (m .slots))) in
     let parts = living-sum f m in (
-      many-fail (λ q. eqb (p .slot) (q .slot)) (m .ready) (omega (arith, parts, one, all)),
+      many-fail (λ q. eqb (p .slot) (q .slot)) (ready m) (omega (arith, parts, one, all)),
       many-fail (λ q. eqb (p .slot) (q .slot)) (map process (m .waiting)) (omega (arith, parts, one, all)),
       many-fail (λ q. eqb (p .slot) (q .slot)) (seated-in (m .elsewhere)) (omega (arith, parts, one, all)),
     )

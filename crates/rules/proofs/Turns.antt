@@ -189,8 +189,14 @@ ceilings-turned k m = turn-cases (λ (n : Machine). n .ceilings ≡ m .ceilings)
 pub sems-turned : (k : ℕ) (m : Machine) → turn k m .sems ≡ m .sems
 sems-turned k m = turn-cases (λ (n : Machine). n .sems ≡ m .sems) k m refl (λ _. refl)
 
-pub ready-turned : (k : ℕ) (m : Machine) → turn k m .ready ≡ m .ready
-ready-turned k m = turn-cases (λ (n : Machine). n .ready ≡ m .ready) k m refl (λ _. refl)
+pub high-turned : (k : ℕ) (m : Machine) → turn k m .high ≡ m .high
+high-turned k m = turn-cases (λ (n : Machine). n .high ≡ m .high) k m refl (λ _. refl)
+
+pub low-turned : (k : ℕ) (m : Machine) → turn k m .low ≡ m .low
+low-turned k m = turn-cases (λ (n : Machine). n .low ≡ m .low) k m refl (λ _. refl)
+
+pub four-turned : (k : ℕ) (m : Machine) → turn k m .four ≡ m .four
+four-turned k m = turn-cases (λ (n : Machine). n .four ≡ m .four) k m refl (λ _. refl)
 
 pub waiting-turned : (k : ℕ) (m : Machine) → turn k m .waiting ≡ m .waiting
 waiting-turned k m = turn-cases (λ (n : Machine). n .waiting ≡ m .waiting) k m refl (λ _. refl)

@@ -1,4 +1,4 @@
-// The day of the accident, with a ceiling for each customer.
+// The day of the accident, with a ceiling for each customer. All its processes are low.
 
 // One customer's flood is denied at its own ceiling; the other customer's alarm gets its process in the same breath.
 pub(crate) fn accident() {
@@ -7,7 +7,7 @@ pub(crate) fn accident() {
 start 1000
 ceilings 2 10 8 ; the gateway's own, the customer that floods, the customer whose bearing cracks
 kernel 1100 -1 0 256 0 ; the gateway starts customer 1's process, id 2
-kernel 1200 -1 0 513 7 ; and customer 2's alarm service, id 3
+kernel 1200 -1 0 512 7 ; and customer 2's alarm service, id 3
 kernel 1300 -7 ; the gateway waits for the pseudo-clock
 interrupt 1400 1 0 0 ; customer 1's slice ends
 kernel 1500 -5 40 ; the alarm service waits at a terminal
@@ -16,7 +16,7 @@ kernel 1700 -1 ; customer 1's flood: ids 4 to 12, and ten of it are alive
 again 8
 kernel 1800 -1 ; one more is denied
 interrupt 1800 1 0 0 ; its slice ends
-kernel 1800 -1 0 1 7 ; the alarm's process is granted, in the same breath: id 13
+kernel 1800 -1 0 0 7 ; the alarm's process is granted, in the same breath: id 13
 kernel 1900 -5 40 ; the alarm service waits again
 kernel 2000 -1 ; the first of the flood is denied as well
 kernel 2100 -3 5 ; each of the flood waits on semaphore 5
@@ -47,13 +47,13 @@ pub(crate) fn larger() {
 start 1000
 ceilings 2 40 22 ; the gateway's own, the customer that floods, the customer whose bearing cracks
 kernel 1100 -1 0 256 0 ; the gateway starts customer 1's process, id 2
-kernel 1200 -1 0 513 7 ; and customer 2's alarm service, id 3
+kernel 1200 -1 0 512 7 ; and customer 2's alarm service, id 3
 kernel 1300 -7 ; the gateway waits for the pseudo-clock
 kernel 1400 -1 ; customer 1's flood: ids 4 to 42, and forty of it are alive
 again 38
 kernel 1500 -1 ; one more is denied
 interrupt 1600 1 0 0 ; its slice ends
-kernel 1700 -1 0 1 7 ; the alarm's process is granted: id 43
+kernel 1700 -1 0 0 7 ; the alarm's process is granted: id 43
 kernel 1800 -1 ; and twenty more, ids 44 to 63: customer 2 has its 22
 again 19
 kernel 1900 -1 ; one more is denied

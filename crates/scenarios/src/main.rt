@@ -1,5 +1,7 @@
-// The demonstration of source document 004, the day of the accident, on a larger gateway too, the day of the tool and
-// the day of three processors, played: what it writes is held to `stdout`, which was written by hand from the rules.
+// The demonstration of source document 004, the day of the accident, on a larger gateway too, the day of the tool, the
+// day of three processors and the day of the alarm, played: what it writes is held to `stdout`, which was written by
+// hand from the rules.
+mod alarm;
 mod counting;
 mod flood;
 mod three;
@@ -12,4 +14,5 @@ fn main() {
     flood::larger();
     tool::kept_off();
     three::processors();
+    alarm::first();
 }

@@ -25,7 +25,7 @@ abbrev pub zeros : ℕ → List ℕ
 zeros n = replicate n 0
 
 abbrev pub begun : ℕ → List ℕ → List ℕ → ℕ → Tables
-begun now values ceilings n = record { ids = 1 ∷ zeros (base-slots - 1); taken = 1; parents = zeros base-slots; customers = zeros base-slots; priorities = zeros base-slots; handles = zeros base-slots; times = zeros base-slots; lines = zeros base-slots; ready = zeros base-slots; nready = 0; waits = zeros base-slots; nwaits = 0; running = 0; sems = values; ceilings = ceilings; next = 2; status = 0; last = now; total = 0; idle = 0; ended = 0; runners = zeros most-processors; lasts = readingsOf now n; idles = zeros most-processors; processors = n }
+begun now values ceilings n = record { ids = 1 ∷ zeros (base-slots - 1); taken = 1; parents = zeros base-slots; customers = zeros base-slots; priorities = zeros base-slots; handles = zeros base-slots; times = zeros base-slots; lines = zeros base-slots; high = zeros base-slots; nhigh = 0; low = zeros base-slots; nlow = 0; four = 0; waits = zeros base-slots; nwaits = 0; running = 0; sems = values; ceilings = ceilings; next = 2; status = 0; last = now; total = 0; idle = 0; ended = 0; runners = zeros most-processors; lasts = readingsOf now n; idles = zeros most-processors; processors = n }
 
 -- ---- the seats
 pub zero-at : (n k : ℕ) → getD (zeros n) k 0 ≡ 0
@@ -80,7 +80,7 @@ readings-long now n = refl
 -- ---- the machine
 -- a fresh machine with these other processors
 abbrev with-others : ℕ → List ℕ → List ℕ → List Seat → book.Machine
-with-others now values ceilings ss = record { slots = base-slots; ceilings = ceilings; running = origin ∷ []; ready = []; waiting = []; sems = values; next = 2; status = On; last = now; total = 0; idle = 0; ended = 0; elsewhere = blank ∷ ss }
+with-others now values ceilings ss = record { slots = base-slots; ceilings = ceilings; running = origin ∷ []; high = []; low = []; four = 0; waiting = []; sems = values; next = 2; status = On; last = now; total = 0; idle = 0; ended = 0; elsewhere = blank ∷ ss }
 
 fresh-is : (now : ℕ) (values ceilings : List ℕ) (j : ℕ) → with-others now values ceilings (replicate j (idle-from now)) ≡ fresh base-slots j now values ceilings
 unfolding fresh

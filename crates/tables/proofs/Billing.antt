@@ -13,11 +13,11 @@ use Rattle.rules.specs.Numbers.{base-slots, most-processors, time-limit}
 use Rattle.rules.specs.Machine as book
 use Rattle.rules.specs.Machine.{Process, Waiter, longer, gap, charge}
 use Rattle.lines.specs.Lines.{occ, one, entry, tally}
-use Rattle.lines.proofs.Occ.{one-same, one-other, tally-add, tally-same, tally-le, tally-at}
+use Rattle.lines.proofs.Occ.{occ-append, one-same, one-other, tally-add, tally-same, tally-le, tally-at}
 use Rattle.lines.proofs.Bridge.{map-apart}
 use Rattle.tables.specs.declared.Tables.{Tables}
 use Rattle.tables.specs.Codes.{status-of}
-use Rattle.tables.specs.View.{row, waiter, occupant, away, readies, waiters, view, Shape}
+use Rattle.tables.specs.View.{row, waiter, occupant, away, highs, lows, readies, waiters, view, Shape}
 use Rattle.tables.specs.Contracts.{Step}
 use Rattle.tables.proofs.Away.{seats-alike}
 use Rattle.tables.proofs.Seats.{Seat, occ-self, occ-seats, occupant-some, runner-seat, runs-one, runs-none}
@@ -63,15 +63,15 @@ unfolding gap
 gap-is m r now a b c h = omega arith
 
 abbrev pub charged : Tables → ℕ → List ℕ → ℕ → Tables
-charged m now ts i = record { ids = m .ids; taken = m .taken; parents = m .parents; customers = m .customers; priorities = m .priorities; handles = m .handles; times = ts; lines = m .lines; ready = m .ready; nready = m .nready; waits = m .waits; nwaits = m .nwaits; running = m .running; sems = m .sems; ceilings = m .ceilings; next = m .next; status = m .status; last = now; total = m .total + gap now (view m); idle = i; ended = m .ended; runners = m .runners; lasts = m .lasts; idles = m .idles; processors = m .processors }
+charged m now ts i = record { ids = m .ids; taken = m .taken; parents = m .parents; customers = m .customers; priorities = m .priorities; handles = m .handles; times = ts; lines = m .lines; high = m .high; nhigh = m .nhigh; low = m .low; nlow = m .nlow; four = m .four; waits = m .waits; nwaits = m .nwaits; running = m .running; sems = m .sems; ceilings = m .ceilings; next = m .next; status = m .status; last = now; total = m .total + gap now (view m); idle = i; ended = m .ended; runners = m .runners; lasts = m .lasts; idles = m .idles; processors = m .processors }
 
 module _ (m : Tables) (g : Shape m) (now : ℕ) (fits : m .total + gap now (view m) ≤ time-limit) where
   abbrev k : ℕ
   k = gap now (view m)
 
   -- a machine of the rule book that is charged
-  abbrev with-charge : List Process → List Process → List Waiter → ℕ → List book.Seat → book.Machine
-  with-charge r q w i ss = record { slots = base-slots; running = r; ready = q; waiting = w; sems = m .sems; ceilings = m .ceilings; next = m .next; status = status-of (m .status); last = now; total = m .total + k; idle = i; ended = m .ended; elsewhere = ss }
+  abbrev with-charge : List Process → List Process → List Process → List Waiter → ℕ → List book.Seat → book.Machine
+  with-charge r h l w i ss = record { slots = base-slots; running = r; high = h; low = l; four = m .four; waiting = w; sems = m .sems; ceilings = m .ceilings; next = m .next; status = status-of (m .status); last = now; total = m .total + k; idle = i; ended = m .ended; elsewhere = ss }
 
   pub charge-idle : base-slots ≤ m .running → Step (charge now) m (charged m now (m .times) (m .idle + k))
   unfolding charge
@@ -79,7 +79,7 @@ module _ (m : Tables) (g : Shape m) (now : ℕ) (fits : m .total + gap now (view
       let none : view m .running ≡ [] = runs-none m g h in
       let sum : m .idle + k + tally (entry (m .idles)) most-processors + m .ended + tally (entry (m .times)) base-slots ≡ m .total + k = omega (arith, g .spent) in
       record {
-        seen = ap₂ (λ r i. with-charge r (view m .ready) (view m .waiting) i (view m .elsewhere)) (none ∙ sym (ap (map (longer k)) none)) (sym (ap (λ (l : List Process). m .idle + first l k (λ p. 0)) none));
+        seen = ap₂ (λ r i. with-charge r (view m .high) (view m .low) (view m .waiting) i (view m .elsewhere)) (none ∙ sym (ap (map (longer k)) none)) (sym (ap (λ (l : List Process). m .idle + first l k (λ p. 0)) none));
         shape = search needs;
       }
 
@@ -124,7 +124,9 @@ module _ (m : Tables) (g : Shape m) (now : ℕ) (fits : m .total + gap now (view
     pub charge-busy : Step (charge now) m c
     unfolding charge timed waits-timed
     charge-busy =
-        let ready : map (row c) (readies m) ≡ view m .ready = map-apart r (row c) (row m) (λ x n. ap (λ v. timed v (row m x)) (other x n)) (readies m) (not-there .0) in
+        let untimed : (l : List ℕ) → occ r l ≡ 0 → map (row c) l ≡ map (row m) l = λ l n. map-apart r (row c) (row m) (λ x n. ap (λ v. timed v (row m x)) (other x n)) l n in
+        let highs-stay : map (row c) (highs m) ≡ view m .high = untimed (highs m) (omega (arith, occ-append r (highs m) (lows m), not-there .0)) in
+        let lows-stay : map (row c) (lows m) ≡ view m .low = untimed (lows m) (omega (arith, occ-append r (highs m) (lows m), not-there .0)) in
         let waits : map (waiter c) (waiters m) ≡ view m .waiting = map-apart r (waiter c) (waiter m) (λ x n. ap (λ v. waits-timed v (waiter m x)) (other x n)) (waiters m) (not-there .1) in
         let seats : view c .elsewhere ≡ view m .elsewhere =
         seats-alike (row c) (row m) (m .runners) (λ x o. ap (λ v. timed v (row m x)) (other x (λ q. let y : ⊥ = omega (arith, o, ap (λ v. occ v (away (m .runners))) q, not-there .2) in y))) (m .processors) (λ k. getD (m .lasts) k 0) (λ k. getD (m .idles) k 0) in
@@ -134,6 +136,6 @@ module _ (m : Tables) (g : Shape m) (now : ℕ) (fits : m .total + gap now (view
         let sum : m .idle + tally (entry (m .idles)) most-processors + m .ended + tally (entry ts) base-slots ≡ m .total + k = omega (arith, g .spent, tally-longer (m .times) r k base-slots (omega (arith, g .times-long)) h) in
         let idle : m .idle ≡ m .idle + first (view m .running) k (λ p. 0) = omega (arith, ap (λ (l : List Process). first l k (λ p. 0)) (runs-one m g h)) in
         record {
-          seen = (λ i. with-charge (longer-row i) (ready i) (waits i) (idle i) (seats i));
+          seen = (λ i. with-charge (longer-row i) (highs-stay i) (lows-stay i) (waits i) (idle i) (seats i));
           shape = search needs;
         }

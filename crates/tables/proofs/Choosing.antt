@@ -9,10 +9,10 @@ use borrow.Author.Needs.{needs}
 use lib.ListN.{length, take, getD}
 use Rattle.rules.specs.declared.Answer.{Answer}
 use Rattle.rules.specs.declared.Action.the-variants.{CarryOn, Run, Wait, Halt, Panic}
-use Rattle.rules.specs.Words.{first}
+use Rattle.rules.specs.Words.{if_then_else_, first}
 use Rattle.rules.specs.Numbers.{base-slots}
 use Rattle.rules.specs.Machine as book
-use Rattle.rules.specs.Machine.{Process, Waiter, seated-in, living, dispatch}
+use Rattle.rules.specs.Machine.{Process, Waiter, seated-in, living, counted, takes-low, next-of, dispatch}
 use Rattle.rules.specs.Answers.{Outcome, doing}
 use Rattle.rules.specs.Rules.{act, runs-elsewhere, worth-waiting, schedule, nobody-ready, carry-on, resume}
 use Rattle.lines.specs.Lines.{first-where}
@@ -23,12 +23,12 @@ use Rattle.tables.specs.declared.Settled.{Settled}
 use Rattle.seats.specs.Seats.{runsSomewhere}
 use Rattle.seats.proofs.Told.{runs-told}
 use Rattle.tables.specs.View.{row, waiter, occupant, waiters, seats, view, Shape}
-use Rattle.tables.specs.Contracts.{Step, Comes}
+use Rattle.tables.specs.Contracts.{run-next, Step, Comes}
 use Rattle.tables.proofs.Seats.{seats-living, sizes, runs-one, runs-none, at-nucleus, nucleus-any}
-use Rattle.tables.proofs.Moves.{dispatched, dispatch-step, ready-first}
+use Rattle.tables.proofs.Moves.{high-runs, low-runs, chosen, high-first, low-first, high-step, low-step}
 
 abbrev pub put-status : ℕ → Tables → Tables
-put-status v m = record { ids = m .ids; taken = m .taken; parents = m .parents; customers = m .customers; priorities = m .priorities; handles = m .handles; times = m .times; lines = m .lines; ready = m .ready; nready = m .nready; waits = m .waits; nwaits = m .nwaits; running = m .running; sems = m .sems; ceilings = m .ceilings; next = m .next; status = v; last = m .last; total = m .total; idle = m .idle; ended = m .ended; runners = m .runners; lasts = m .lasts; idles = m .idles; processors = m .processors }
+put-status v m = record { ids = m .ids; taken = m .taken; parents = m .parents; customers = m .customers; priorities = m .priorities; handles = m .handles; times = m .times; lines = m .lines; high = m .high; nhigh = m .nhigh; low = m .low; nlow = m .nlow; four = m .four; waits = m .waits; nwaits = m .nwaits; running = m .running; sems = m .sems; ceilings = m .ceilings; next = m .next; status = v; last = m .last; total = m .total; idle = m .idle; ended = m .ended; runners = m .runners; lasts = m .lasts; idles = m .idles; processors = m .processors }
 
 -- the first of a list that is known
 pub first-known {ℓ κ} : {A : Type ℓ} {B : Type κ} (xs : List A) (y : A) (ys : List A) (none : B) (some : A → B) → xs ≡ y ∷ ys → first xs none some ≡ some y
@@ -58,7 +58,7 @@ elsewhere-told m g = sym (runs-told (row m) (m .runners) (m .processors) (λ k. 
 first-there : (m : Tables) → m .running ≡ base-slots → runs-elsewhere (view m) ≡ true → {B : Type 0} (a b : B) → first (living (view m)) a (λ p. b) ≡ b
 unfolding living runs-elsewhere
 first-there m r e a b =
-    ap (λ (n : ℕ). first (map (row m) (occupant n) ++ (seated-in (view m .elsewhere) ++ (view m .ready ++ map (λ (w : Waiter). w .process) (view m .waiting)))) a (λ p. b)) r
+    ap (λ (n : ℕ). first (map (row m) (occupant n) ++ (seated-in (view m .elsewhere) ++ (view m .high ++ view m .low ++ map (λ (w : Waiter). w .process) (view m .waiting)))) a (λ p. b)) r
     ∙ some-first (seated-in (view m .elsewhere)) _ a b e
 
 pub beside-comes : (x : Answer) (m : Tables) → Shape m → m .running ≡ base-slots → runsSomewhere (m .runners) ≡ true → Comes (nobody-ready x (view m)) (record { tables = m; answer = doing Wait x })
@@ -67,11 +67,11 @@ beside-comes x m g r e =
     let there : runs-elsewhere (view m) ≡ true = elsewhere-told m g ∙ e in
     record { seen = first-there m r there _ _ ∙ rw there; shape = g }
 
-pub halt-comes : (x : Answer) (m : Tables) → Shape m → m .running ≡ base-slots → m .nready ≡ 0 → runsSomewhere (m .runners) ≡ false → m .nwaits ≡ 0 → Comes (nobody-ready x (view m)) (record { tables = put-status 1 m; answer = doing Halt x })
+pub halt-comes : (x : Answer) (m : Tables) → Shape m → m .running ≡ base-slots → m .nhigh ≡ 0 → m .nlow ≡ 0 → runsSomewhere (m .runners) ≡ false → m .nwaits ≡ 0 → Comes (nobody-ready x (view m)) (record { tables = put-status 1 m; answer = doing Halt x })
 unfolding nobody-ready living runs-elsewhere
-halt-comes x m g r n e w =
+halt-comes x m g r h l e w =
     let nobody : seated-in (view m .elsewhere) ≡ [] = none-first (seated-in (view m .elsewhere)) (elsewhere-told m g ∙ e) in
-    let none : living (view m) ≡ [] = λ i. map (row m) (occupant (r i)) ++ (nobody i ++ (map (row m) (take (n i) (m .ready)) ++ map (λ (w : Waiter). w .process) (map (waiter m) (take (w i) (m .waits))))) in
+    let none : living (view m) ≡ [] = λ i. map (row m) (occupant (r i)) ++ (nobody i ++ (map (row m) (take (h i) (m .high)) ++ map (row m) (take (l i) (m .low)) ++ map (λ (w : Waiter). w .process) (map (waiter m) (take (w i) (m .waits))))) in
     record { seen = first-empty (living (view m)) _ _ none; shape = search needs }
 
 module _ (x : Answer) (m : Tables) (g : Shape m) (alone : runsSomewhere (m .runners) ≡ false) (some : 0 < m .nwaits) where
@@ -97,21 +97,39 @@ module _ (x : Answer) (m : Tables) (g : Shape m) (alone : runsSomewhere (m .runn
   }
 
 -- ---- schedule
-pub stuck : (x : Answer) (m : Tables) (r : Settled) → m .nready ≡ 0 → Comes (nobody-ready x (view m)) r → Comes (schedule x (view m)) r
+pub stuck : (x : Answer) (m : Tables) (r : Settled) → m .nhigh ≡ 0 → m .nlow ≡ 0 → Comes (nobody-ready x (view m)) r → Comes (schedule x (view m)) r
 unfolding schedule
-stuck x m r n h = comes-by (schedule x (view m)) (nobody-ready x (view m)) r (first-empty (view m .ready) (nobody-ready x (view m)) _ (ap (λ k. map (row m) (take k (m .ready))) n)) h
+stuck x m r h l c =
+    let none : next-of (view m .high) (view m .low) (m .four) ≡ [] = λ i. next-of (map (row m) (take (h i) (m .high))) (map (row m) (take (l i) (m .low))) (m .four) in
+    comes-by (schedule x (view m)) (nobody-ready x (view m)) r (first-empty (next-of (view m .high) (view m .low) (m .four)) (nobody-ready x (view m)) _ none) c
 
-pub run-comes : (x : Answer) (m : Tables) (g : Shape m) (free : m .running ≡ base-slots) (some : 0 < m .nready)
-    → Comes (schedule x (view m)) (record { tables = dispatched m; answer = doing (Run (dispatched m .running)) x })
-unfolding schedule
-run-comes x m g free some =
-    let st : Step dispatch m (dispatched m) = dispatch-step m g free some in
-    record {
-      seen =
-          first-known (view m .ready) (row m (dispatched m .running)) (view (dispatched m) .ready) (nobody-ready x (view m)) (λ p. act (Run (p .slot)) x (dispatch (view m))) (ap (map (row m)) (ready-first m g free some))
-          ∙ ap (act (Run (dispatched m .running)) x) (sym (st .seen));
-      shape = st .shape;
-    }
+-- where it is known whether a low one is chosen
+schedule-by : (x : Answer) (m : book.Machine) (b : Bool) → takes-low m ≡ b → schedule x m ≡ first (if b then m .low else m .high) (nobody-ready x m) (λ p. act (Run (p .slot)) x (chosen b m))
+unfolding schedule dispatch
+schedule-by x m b e = ap (λ (c : Bool). first (if c then m .low else m .high) (nobody-ready x m) (λ p. act (Run (p .slot)) x (chosen c m))) e
+
+module _ (x : Answer) (m : Tables) (g : Shape m) (free : m .running ≡ base-slots) (n : ℕ) (count : n ≡ counted (view m .high) (view m .low) (m .four)) where
+  pub high-comes : takes-low (view m) ≡ false → 0 < m .nhigh → Comes (schedule x (view m)) (run-next (getD (m .high) 0 0) n x (high-runs n m))
+  high-comes turn some =
+      let st : Step (chosen false) m (high-runs n m) = high-step m g free n count some in
+      record {
+        seen =
+            schedule-by x (view m) false turn
+            ∙ first-known (view m .high) (row m (getD (m .high) 0 0)) (view (high-runs n m) .high) (nobody-ready x (view m)) (λ p. act (Run (p .slot)) x (chosen false (view m))) (ap (map (row m)) (high-first m g free n count some))
+            ∙ ap (act (Run (getD (m .high) 0 0)) x) (sym (st .seen));
+        shape = st .shape;
+      }
+
+  pub low-comes : takes-low (view m) ≡ true → 0 < m .nlow → Comes (schedule x (view m)) (run-next (getD (m .low) 0 0) n x (low-runs n m))
+  low-comes turn some =
+      let st : Step (chosen true) m (low-runs n m) = low-step m g free n count some in
+      record {
+        seen =
+            schedule-by x (view m) true turn
+            ∙ first-known (view m .low) (row m (getD (m .low) 0 0)) (view (low-runs n m) .low) (nobody-ready x (view m)) (λ p. act (Run (p .slot)) x (chosen true (view m))) (ap (map (row m)) (low-first m g free n count some))
+            ∙ ap (act (Run (getD (m .low) 0 0)) x) (sym (st .seen));
+        shape = st .shape;
+      }
 
 -- ---- carry on
 pub carry-comes : (x : Answer) (m : Tables) → Shape m → Comes (carry-on (row m (m .running)) x (view m)) (record { tables = m; answer = doing (CarryOn (m .running)) x })

@@ -23,7 +23,7 @@ use Rattle.lines.proofs.Laws.{kept-view, kept-line}
 use Rattle.lines.proofs.Bridge.{those-map, those-same, map-same, passing}
 use Rattle.tables.specs.declared.Tables.{Tables}
 use Rattle.tables.specs.Codes.{decode, last-code, status-of}
-use Rattle.tables.specs.View.{row, waiter, occupant, away, seat-at, readies, waiters, seats, view, live, Shape}
+use Rattle.tables.specs.View.{row, waiter, occupant, away, seat-at, highs, lows, readies, waiters, seats, view, live, Shape}
 use Rattle.seats.specs.Seats.{leavingOf}
 use Rattle.seats.proofs.Tabled.{table-same, table-map}
 use Rattle.seats.proofs.Told.{mask-told, rid-told}
@@ -51,8 +51,11 @@ killed m ds = record {
   handles = struck ds (m .handles);
   times = struck ds (m .times);
   lines = struck ds (m .lines);
-  ready = kept (alive ds) (m .ready) (m .nready);
-  nready = length (those (alive ds) (readies m));
+  high = kept (alive ds) (m .high) (m .nhigh);
+  nhigh = length (those (alive ds) (highs m));
+  low = kept (alive ds) (m .low) (m .nlow);
+  nlow = length (those (alive ds) (lows m));
+  four = m .four;
   waits = kept (alive ds) (m .waits) (m .nwaits);
   nwaits = length (those (alive ds) (waiters m));
   running = spared-of base-slots ds (m .running);
@@ -133,8 +136,14 @@ module _ (m : Tables) (g : Shape m) (n : ℕ) (ds : List Bool) (w : Marks (m .pa
       ∙ sym (those-map t h l ∙ ap (map h) (those-same (Seat m) (λ x. t (h x)) (alive ds) tests l s))
 
   -- ---- the three parts of the view
+  highs-killed : highs r ≡ those (alive ds) (highs m)
+  highs-killed = kept-view base-slots (alive ds) (m .high) (m .nhigh) (g .high-line)
+
+  lows-killed : lows r ≡ those (alive ds) (lows m)
+  lows-killed = kept-view base-slots (alive ds) (m .low) (m .nlow) (g .low-line)
+
   readies-killed : readies r ≡ those (alive ds) (readies m)
-  readies-killed = kept-view base-slots (alive ds) (m .ready) (m .nready) (g .ready-line)
+  readies-killed = ap₂ (λ (a b : List ℕ). a ++ b) highs-killed lows-killed ∙ sym (those-append (alive ds) (highs m) (lows m))
 
   waiters-killed : waiters r ≡ those (alive ds) (waiters m)
   waiters-killed = kept-view base-slots (alive ds) (m .waits) (m .nwaits) (g .waits-line)
@@ -212,13 +221,17 @@ module _ (m : Tables) (g : Shape m) (n : ℕ) (ds : List Bool) (w : Marks (m .pa
     unfolding kill
     view-killed =
         let a : view r .running ≡ those (λ p. not (family n p)) (view m .running) = rows-killed (occupant (m .running)) (occupant (r .running)) (occupant-spared ds (m .running)) (All-left (Seat m) (occupant (m .running)) (away (m .runners) ++ (readies m ++ waiters m)) (seated m g)) in
-        let b : view r .ready ≡ those (λ p. not (family n p)) (view m .ready) = rows-killed (readies m) (readies r) readies-killed (All-left (Seat m) (readies m) (waiters m) beside) in
+        let ready : All (Seat m) (readies m) = All-left (Seat m) (readies m) (waiters m) beside in
+        let h : view r .high ≡ those (λ p. not (family n p)) (view m .high) = rows-killed (highs m) (highs r) highs-killed (All-left (Seat m) (highs m) (lows m) ready) in
+        let l : view r .low ≡ those (λ p. not (family n p)) (view m .low) = rows-killed (lows m) (lows r) lows-killed (All-right (Seat m) (highs m) (lows m) ready) in
         let t : sum (λ (p : Process). p .time) (family-of n (view m)) ≡ of-doomed ds (entry (m .times)) = family-sum (λ p. p .time) in
         λ i. record {
           slots = base-slots;
           ceilings = m .ceilings;
           running = a i;
-          ready = b i;
+          high = h i;
+          low = l i;
+          four = m .four;
           waiting = waiting-killed i;
           sems = m .sems;
           next = m .next;
@@ -293,7 +306,8 @@ module _ (m : Tables) (g : Shape m) (n : ℕ) (ds : List Bool) (w : Marks (m .pa
     lines-long = length-struck ds (m .lines) ∙ g .lines-long;
     sems-long = g .sems-long;
     ceilings-long = g .ceilings-long;
-    ready-line = kept-line base-slots (alive ds) (m .ready) (m .nready) (g .ready-line);
+    high-line = kept-line base-slots (alive ds) (m .high) (m .nhigh) (g .high-line);
+    low-line = kept-line base-slots (alive ds) (m .low) (m .nlow) (g .low-line);
     waits-line = kept-line base-slots (alive ds) (m .waits) (m .nwaits) (g .waits-line);
     runner = runner-killed;
     homes = λ s b. counted (seats m) (seats r) seats-killed (m .ids) s (g .homes s b);

@@ -2,6 +2,7 @@
 pub mod Coding
 pub mod Away
 pub mod Seats
+pub mod Lining
 pub mod Moves
 pub mod Choosing
 pub mod Waking

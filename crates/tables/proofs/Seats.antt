@@ -22,7 +22,7 @@ use Rattle.lines.proofs.Laws.{line-size}
 use Rattle.lines.proofs.Bridge.{those-map, any-map, those-same, any-same, occurring, occ-slot, slots-append}
 use Rattle.tables.specs.declared.Tables.{Tables}
 use Rattle.tables.specs.Codes.{decode, last-code}
-use Rattle.tables.specs.View.{row, waiter, occupant, away, readies, waiters, seats, view, live, Shape}
+use Rattle.tables.specs.View.{row, waiter, occupant, away, highs, lows, readies, waiters, seats, view, live, Shape}
 use Rattle.tables.proofs.Coding.{same-code, nucleus-code}
 use Rattle.tables.proofs.Away.{seated-away, away-slots}
 
@@ -78,8 +78,9 @@ rows-of m (x ∷ l) = ap (λ (r : List Process). row m x ∷ r) (rows-of m l)
 pub seats-living : (m : Tables) → Shape m → living (view m) ≡ map (row m) (seats m)
 unfolding living
 seats-living m g =
-    ap₂ (λ (a b : List Process). map (row m) (occupant (m .running)) ++ (a ++ (map (row m) (readies m) ++ b)))
+    ap₂ (λ (a b : List Process). map (row m) (occupant (m .running)) ++ (a ++ (map (row m) (highs m) ++ map (row m) (lows m) ++ b)))
     (seated-away (row m) (m .runners) (m .processors) (getD-of (m .lasts)) (getD-of (m .idles)) (g .no-runner)) (rows-of m (waiters m))
+    ∙ ap (λ (l : List Process). map (row m) (occupant (m .running)) ++ (map (row m) (away (m .runners)) ++ (l ++ map (row m) (waiters m)))) (sym (map-append (row m) (highs m) (lows m)))
     ∙ ap (λ (l : List Process). map (row m) (occupant (m .running)) ++ (map (row m) (away (m .runners)) ++ l)) (sym (map-append (row m) (readies m) (waiters m)))
     ∙ ap (λ (l : List Process). map (row m) (occupant (m .running)) ++ l) (sym (map-append (row m) (away (m .runners)) (readies m ++ waiters m)))
     ∙ sym (map-append (row m) (occupant (m .running)) (away (m .runners) ++ (readies m ++ waiters m)))
@@ -111,7 +112,7 @@ module _ (m : Tables) (g : Shape m) where
   seats-slots =
       slots-append base-slots (occupant (m .running)) (away (m .runners) ++ (readies m ++ waiters m)) (occupant-slots (m .running))
       (slots-append base-slots (away (m .runners)) (readies m ++ waiters m) (away-slots (m .runners) (g .in-seats))
-      (slots-append base-slots (readies m) (waiters m) (g .ready-line .slots) (g .waits-line .slots)))
+      (slots-append base-slots (readies m) (waiters m) (slots-append base-slots (highs m) (lows m) (g .high-line .slots) (g .low-line .slots)) (g .waits-line .slots)))
 
   pub seat : (s : ℕ) → 1 ≤ occ s (seats m) → Seat m s
   seat s b =
@@ -151,19 +152,19 @@ module _ (m : Tables) (g : Shape m) where
   pub few : length (seats m) ≤ base-slots
   few = omega (arith, length-occ base-slots (seats m) seats-slots, tally-le (λ s. occ s (seats m)) (λ s. 1) base-slots (λ s b. omega (arith, g .homes s b, live-le (getD (m .ids) s 0))), tally-ones base-slots)
 
-  pub sizes : length (seats m) ≡ length (occupant (m .running)) + (length (away (m .runners)) + (m .nready + m .nwaits))
+  pub sizes : length (seats m) ≡ length (occupant (m .running)) + (length (away (m .runners)) + (m .nhigh + m .nlow + m .nwaits))
   sizes =
       length-append (occupant (m .running)) (away (m .runners) ++ (readies m ++ waiters m))
       ∙ ap (λ n. length (occupant (m .running)) + n) (
       length-append (away (m .runners)) (readies m ++ waiters m)
-      ∙ ap (λ n. length (away (m .runners)) + n) (length-append (readies m) (waiters m) ∙ ap₂ (λ a b. a + b) (line-size (g .ready-line)) (line-size (g .waits-line)))
+      ∙ ap (λ n. length (away (m .runners)) + n) (length-append (readies m) (waiters m) ∙ ap₂ (λ a b. a + b) (length-append (highs m) (lows m) ∙ ap₂ (λ a b. a + b) (line-size (g .high-line)) (line-size (g .low-line))) (line-size (g .waits-line)))
       )
 
-  -- who runs leaves room in both lines, and one who waits in the ready line
-  pub room-beside : m .running < base-slots → m .nready + m .nwaits < base-slots
+  -- who runs leaves room in all lines, and one who waits in the ready lines
+  pub room-beside : m .running < base-slots → m .nhigh + m .nlow + m .nwaits < base-slots
   room-beside h = omega (arith, few, sizes, ap length (occupant-some (m .running) h))
 
-  pub room-both : m .nready + m .nwaits ≤ base-slots
+  pub room-both : m .nhigh + m .nlow + m .nwaits ≤ base-slots
   room-both = omega (arith, few, sizes)
 
   -- the living of a customer, slot by slot

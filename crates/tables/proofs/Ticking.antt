@@ -1,35 +1,40 @@
 -- All who wait for the pseudo-clock become ready, over machines alone.
 -- Assumes nothing.
-use mathlib.Core.Path.{_≡_, refl, sym, ap, ap₂, _∙_}
-use mathlib.Core.Bool.{Bool, true, false, not}
-use mathlib.Core.List.{List, _++_, map, map-append}
+use mathlib.Core.Path.{_≡_, refl, sym, ap, ap₂, subst, _∙_}
+use mathlib.Core.Bool.{Bool, true, false, not, _&&_}
+use mathlib.Core.List.{List, [], _∷_, map}
 use Prim.Native.Nat.{ℕ, _+_, _-_, _^_, _<_, _≤_}
 use native.Mathlib.Omega.{arith}
 use lib.Dec.{eqb}
-use lib.ListN.{length, take, getD}
+use lib.ListN.{length, getD}
 use borrow.Author.Tests.{eqb-true}
 use Rattle.rules.specs.declared.Line.the-variants.{PseudoClock}
 use Rattle.rules.specs.Words.{if_then_else_, those}
 use Rattle.rules.proofs.Sums.{sum-over}
 use Rattle.rules.specs.Numbers.{base-slots}
-use Rattle.rules.specs.Machine.{Process, Waiter, with-lines, at, line, wake-all}
+use Rattle.rules.specs.Machine as book
+use Rattle.rules.specs.Machine.{Process, Waiter, with-places, at, line, wake-all}
 use Rattle.rules.specs.Answers.{mask}
-use Rattle.lines.specs.Lines.{Line, occ, marked, alive, kept, joined, struck, tally}
-use Rattle.lines.proofs.Occ.{occ-append, occ-keep, sum-marked}
+use Rattle.lines.specs.Lines.{InSlots, occ, marked, alive, joining, kept, joined, struck, tally}
+use Rattle.lines.proofs.Occ.{occ-keep, sum-marked}
 use Rattle.lines.proofs.Marks.{getD-struck, length-struck}
-use Rattle.lines.proofs.Laws.{line-size, kept-view, kept-line, slots-keep}
-use Rattle.lines.proofs.Bridge.{those-map, those-same, map-same, passing, part-sizes, join-view, join-line}
+use Rattle.lines.proofs.Laws.{line-size, keep-le, kept-view, kept-line, slots-keep}
+use Rattle.lines.proofs.Bridge.{those-map, those-same, map-same, passing, part-sizes}
 use Rattle.tables.specs.declared.Tables.{Tables}
 use Rattle.tables.specs.Codes.{decode, last-code}
 use Rattle.tables.specs.View.{row, waiter, readies, waiters, view, live, Shape}
-use Rattle.tables.specs.Contracts.{Ticks}
+use Rattle.tables.specs.Contracts.{put-ready, own-line, lined-up, Ticks}
 use Rattle.tables.proofs.Coding.{decode-clock}
 use Rattle.tables.proofs.Seats.{Waits, occ-seats, pos-live, waiting, room-both, at-line, line-of}
-use Rattle.tables.proofs.Moves.{put-places, moved-shape}
+use Rattle.tables.proofs.Lining.{high-lined, low-lined, occ-lined, lined-seen}
+use Rattle.tables.proofs.Moves.{put-waits, moved-shape}
 
--- the machine with the marked of the waiting made ready
+-- the machine with the marked of the waiting taken out, and then made ready
+abbrev pub left-over : Tables → List Bool → Tables
+left-over m ds = put-waits (kept (alive ds) (m .waits) (m .nwaits)) (length (those (alive ds) (waiters m))) (struck ds (m .lines)) m
+
 abbrev pub ticked : Tables → List Bool → Tables
-ticked m ds = put-places (m .running) (joined (m .ready) (m .nready) (those (marked ds) (waiters m))) (m .nready + (m .nwaits - length (those (alive ds) (waiters m)))) (kept (alive ds) (m .waits) (m .nwaits)) (length (those (alive ds) (waiters m))) (struck ds (m .lines)) m
+ticked m ds = lined-up (those (marked ds) (waiters m)) (left-over m ds)
 
 not-true-is : (b : Bool) → not b ≡ true → b ≡ false
 not-true-is true e = sym e
@@ -39,26 +44,17 @@ module _ (m : Tables) (g : Shape m) (ds : List Bool) (is : (s : ℕ) → s < bas
   abbrev r : Tables
   r = ticked m ds
 
-  up : List ℕ
-  up = those (marked ds) (waiters m)
-
   sizes : length (those (alive ds) (waiters m)) + length (those (marked ds) (waiters m)) ≡ m .nwaits
   sizes = part-sizes (marked ds) (waiters m) ∙ line-size (g .waits-line)
 
-  pub tick-room : m .nready + length (those (marked ds) (waiters m)) ≤ base-slots
+  pub tick-room : m .nhigh + m .nlow + length (those (marked ds) (waiters m)) ≤ base-slots
   tick-room = omega (arith, sizes, room-both m g)
-
-  count : m .nready + (m .nwaits - length (those (alive ds) (waiters m))) ≡ m .nready + length (those (marked ds) (waiters m))
-  count = omega (arith, sizes)
-
-  joins : readies r ≡ readies m ++ those (marked ds) (waiters m)
-  joins = ap (λ n. take n (r .ready)) count ∙ join-view base-slots (m .ready) (m .nready) (g .ready-line) (those (marked ds) (waiters m)) tick-room
 
   stays : waiters r ≡ those (alive ds) (waiters m)
   stays = kept-view base-slots (alive ds) (m .waits) (m .nwaits) (g .waits-line)
 
-  ready-now : Line base-slots (r .ready) (r .nready)
-  ready-now = rw count (join-line base-slots (m .ready) (m .nready) (g .ready-line) (those (marked ds) (waiters m)) tick-room (slots-keep base-slots (marked ds) (waiters m) (g .waits-line .slots)))
+  slots : InSlots base-slots (those (marked ds) (waiters m))
+  slots = slots-keep base-slots (marked ds) (waiters m) (g .waits-line .slots)
 
   -- the marked are those in the line
   on : (x : ℕ) → Waits m x → at PseudoClock (waiter m x) ≡ marked ds x
@@ -94,7 +90,7 @@ module _ (m : Tables) (g : Shape m) (ds : List Bool) (is : (s : ℕ) → s < bas
       go s b false e = refl
 
   homes-now : (x : ℕ) → x < base-slots → occ x (readies r) + occ x (waiters r) ≡ occ x (readies m) + occ x (waiters m)
-  homes-now x b = omega (arith, ap (occ x) joins, occ-append x (readies m) (those (marked ds) (waiters m)), ap (occ x) stays, both (marked ds x) (occ-keep (alive ds) x (waiters m)) (occ-keep (marked ds) x (waiters m)))
+  homes-now x b = omega (arith, occ-lined (left-over m ds) (g .high-line) (g .low-line) (those (marked ds) (waiters m)) tick-room x, ap (occ x) stays, both (marked ds x) (occ-keep (alive ds) x (waiters m)) (occ-keep (marked ds) x (waiters m)))
     where
       both : (t : Bool) → occ x (those (alive ds) (waiters m)) ≡ (if not t then occ x (waiters m) else 0) → occ x (those (marked ds) (waiters m)) ≡ (if t then occ x (waiters m) else 0) → occ x (those (alive ds) (waiters m)) + occ x (those (marked ds) (waiters m)) ≡ occ x (waiters m)
       both true p q = omega arith
@@ -107,15 +103,46 @@ module _ (m : Tables) (g : Shape m) (ds : List Bool) (is : (s : ℕ) → s < bas
       go true = (refl, omega arith)
       go false = (g .coded x b, g .codes x b)
 
-  pub tick-is : Ticks m (record { tables = r; woken = tally (λ s. if marked ds s then 2 ^ s else 0) base-slots })
+  ticked-is : Ticks m (record { tables = r; woken = tally (λ s. if marked ds s then 2 ^ s else 0) base-slots })
   unfolding wake-all
-  tick-is = record {
-    seen = ap₂ (λ (q : List Process) (w : List Waiter). with-lines (view m .running) q w (view m))
-        (ap (map (row m)) joins ∙ map-append (row m) (readies m) (those (marked ds) (waiters m)) ∙ ap (λ (l : List Process). view m .ready ++ l) (sym line-now))
-        rest-stay;
+  ticked-is = record {
+    seen =
+        lined-seen (left-over m ds) (g .high-line) (g .low-line) (those (marked ds) (waiters m)) tick-room
+        ∙ ap₂ (λ (ps : List Process) (w : List Waiter). book.joined ps (with-places (view m .running) w (view m))) (sym line-now) rest-stay;
     told = mask-now;
     still = refl;
-    shape = moved-shape m g (m .running) _ _ _ _ _ (g .runner) ready-now (kept-line base-slots (alive ds) (m .waits) (m .nwaits) (g .waits-line)) (length-struck ds (m .lines) ∙ g .lines-long)
+    shape = moved-shape m g (m .running) (m .four) _ _ _ _ _ _ _ (g .runner) (high-lined (left-over m ds) (g .high-line) (g .low-line) (those (marked ds) (waiters m)) tick-room slots) (low-lined (left-over m ds) (g .high-line) (g .low-line) (those (marked ds) (waiters m)) tick-room slots) (kept-line base-slots (alive ds) (m .waits) (m .nwaits) (g .waits-line)) (length-struck ds (m .lines) ∙ g .lines-long)
         (λ x b. omega (arith, occ-seats m x, occ-seats r x, homes-now x b))
         coded-now;
   }
+
+  -- ---- as the code leaves it: the marked whose line it is, taken from the waiting for each line by itself
+  those-both : (u t : ℕ → Bool) (l : List ℕ) → those (λ x. u x && t x) l ≡ those t (those u l)
+  those-both u t [] = refl
+  those-both u t (x ∷ l) = go (u x) (t x) refl (those-both u t l)
+    where
+      go : (a b : Bool) → t x ≡ b → those (λ x. u x && t x) l ≡ those t (those u l)
+          → (if a && b then x ∷ those (λ x. u x && t x) l else those (λ x. u x && t x) l) ≡ those t (if a then x ∷ those u l else those u l)
+      go true true e h = rw e (ap (λ (k : List ℕ). x ∷ k) h)
+      go true false e h = rw e h
+      go false b e h = h
+
+  abbrev up : Bool → List ℕ
+  up high = those (joining ds (m .priorities) high) (waiters m)
+
+  up-is : (high : Bool) → up high ≡ those (own-line high m) (those (marked ds) (waiters m))
+  up-is high = those-both (marked ds) (own-line high m) (waiters m)
+
+  pub up-room : (m .nhigh + length (up true) ≤ base-slots) × (m .nlow + length (up false) ≤ base-slots)
+  up-room =
+      let high = keep-le (own-line true m) (those (marked ds) (waiters m)) in
+      let low = keep-le (own-line false m) (those (marked ds) (waiters m)) in
+      (omega (arith, tick-room, ap length (up-is true), high), omega (arith, tick-room, ap length (up-is false), low))
+
+  abbrev with-both : List ℕ → List ℕ → Tables
+  with-both hs ls = put-ready (joined (m .high) (m .nhigh) hs) (m .nhigh + length hs) (joined (m .low) (m .nlow) ls) (m .nlow + length ls) (left-over m ds)
+
+  pub tick-is : Ticks m (record { tables = with-both (up true) (up false); woken = tally (λ s. if marked ds s then 2 ^ s else 0) base-slots })
+  tick-is =
+      subst (λ (t : Tables). Ticks m (record { tables = t; woken = tally (λ s. if marked ds s then 2 ^ s else 0) base-slots }))
+      (ap₂ with-both (sym (up-is true)) (sym (up-is false))) ticked-is

@@ -131,7 +131,7 @@ machine-tests m =
     ∷ eqb (length (m .handles)) base-slots
     ∷ eqb (length (m .times)) base-slots
     ∷ eqb (length (m .lines)) base-slots
-    ∷ all-true (line-tests (m .ready) (m .nready))
+    ∷ all-true (line-tests (m .high) (m .nhigh))
     ∷ all-true (line-tests (m .waits) (m .nwaits))
     ∷ leb (m .running) base-slots
     ∷ leb (m .status) 2
@@ -140,6 +140,7 @@ machine-tests m =
     ∷ all-below (λ s. all-true (slot-tests m s)) base-slots
     ∷ eqb (m .taken) (mask-of-taken base-slots (m .ids))
     ∷ eqb (length (m .customers)) base-slots
+    ∷ all-true (line-tests (m .low) (m .nlow))
     ∷ []
 
 -- the layout of the processors' seats
@@ -178,7 +179,8 @@ module _ (m : Tables) (sems : length (m .sems) ≡ base-sems) (ceilings : length
     lines-long = eqb-true (length (m .lines)) base-slots (whole .1 .1 .1 .1 .1 .0);
     sems-long = sems;
     ceilings-long = ceilings;
-    ready-line = line-tested (m .ready) (m .nready) (whole .1 .1 .1 .1 .1 .1 .0);
+    high-line = line-tested (m .high) (m .nhigh) (whole .1 .1 .1 .1 .1 .1 .0);
+    low-line = line-tested (m .low) (m .nlow) (whole .1 .1 .1 .1 .1 .1 .1 .1 .1 .1 .1 .1 .1 .1 .1 .0);
     waits-line = line-tested (m .waits) (m .nwaits) (whole .1 .1 .1 .1 .1 .1 .1 .0);
     runner = leb-true (m .running) base-slots (whole .1 .1 .1 .1 .1 .1 .1 .1 .0);
     homes = λ s b. eqb-true (occ s (seats m)) (live (getD (m .ids) s 0)) (at-slot s b .0);

@@ -22,7 +22,7 @@ use Rattle.tables.proofs.Seats.{occ-seats}
 use Rattle.tables.proofs.Billing.{tally-swap}
 
 abbrev pub turned : ℕ → Tables → Tables
-turned k m = record { ids = m .ids; taken = m .taken; parents = m .parents; customers = m .customers; priorities = m .priorities; handles = m .handles; times = m .times; lines = m .lines; ready = m .ready; nready = m .nready; waits = m .waits; nwaits = m .nwaits; running = slot-of (getD (m .runners) k 0); sems = m .sems; ceilings = m .ceilings; next = m .next; status = m .status; last = getD (m .lasts) k 0; total = m .total; idle = getD (m .idles) k 0; ended = m .ended; runners = set (m .runners) k (code-of (m .running)); lasts = set (m .lasts) k (m .last); idles = set (m .idles) k (m .idle); processors = m .processors }
+turned k m = record { ids = m .ids; taken = m .taken; parents = m .parents; customers = m .customers; priorities = m .priorities; handles = m .handles; times = m .times; lines = m .lines; high = m .high; nhigh = m .nhigh; low = m .low; nlow = m .nlow; four = m .four; waits = m .waits; nwaits = m .nwaits; running = slot-of (getD (m .runners) k 0); sems = m .sems; ceilings = m .ceilings; next = m .next; status = m .status; last = getD (m .lasts) k 0; total = m .total; idle = getD (m .idles) k 0; ended = m .ended; runners = set (m .runners) k (code-of (m .running)); lasts = set (m .lasts) k (m .last); idles = set (m .idles) k (m .idle); processors = m .processors }
 
 set-bound : (l : List ℕ) (k x top : ℕ) → x ≤ top → ((j : ℕ) → getD l j 0 ≤ top) → (j : ℕ) → getD (set l k x) j 0 ≤ top
 set-bound [] k x top h b j = b j
@@ -89,7 +89,8 @@ module _ (k : ℕ) (m : Tables) (g : Shape m) (l : k < m .processors) where
     lines-long = g .lines-long;
     sems-long = g .sems-long;
     ceilings-long = g .ceilings-long;
-    ready-line = g .ready-line;
+    high-line = g .high-line;
+    low-line = g .low-line;
     waits-line = g .waits-line;
     runner = slot-low code (g .in-seats k);
     homes = λ s b. homes-turned s ∙ g .homes s b;

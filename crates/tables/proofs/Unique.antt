@@ -20,7 +20,7 @@ use Rattle.lines.proofs.Laws.{line-unique}
 use Rattle.lines.proofs.Bridge.{row-at}
 use Rattle.tables.specs.declared.Tables.{Tables}
 use Rattle.tables.specs.Codes.{encode, status-of}
-use Rattle.tables.specs.View.{row, waiter, occupant, away, seat-at, readies, waiters, seats, view, live, Shape}
+use Rattle.tables.specs.View.{row, waiter, occupant, away, seat-at, highs, lows, waiters, seats, view, live, Shape}
 use Rattle.seats.specs.Seats.{held-slot}
 use Rattle.seats.proofs.Tabled.{table-long, table-get}
 use Rattle.kin.specs.Families.{elders}
@@ -73,9 +73,13 @@ module _ (a b : Tables) (g : Shape a) (h : Shape b) (e : view a ≡ view b) wher
       occupant-one (a .running) (b .running) (g .runner) (h .runner)
       (sym (slots-of slot (row a) (λ s. refl) (occupant (a .running))) ∙ ap (λ (m : book.Machine). map slot (m .running)) e ∙ slots-of slot (row b) (λ s. refl) (occupant (b .running)))
 
-  readies-same : readies a ≡ readies b
+  highs-same : highs a ≡ highs b
   unfolding slot
-  readies-same = sym (slots-of slot (row a) (λ s. refl) (readies a)) ∙ ap (λ (m : book.Machine). map slot (m .ready)) e ∙ slots-of slot (row b) (λ s. refl) (readies b)
+  highs-same = sym (slots-of slot (row a) (λ s. refl) (highs a)) ∙ ap (λ (m : book.Machine). map slot (m .high)) e ∙ slots-of slot (row b) (λ s. refl) (highs b)
+
+  lows-same : lows a ≡ lows b
+  unfolding slot
+  lows-same = sym (slots-of slot (row a) (λ s. refl) (lows a)) ∙ ap (λ (m : book.Machine). map slot (m .low)) e ∙ slots-of slot (row b) (λ s. refl) (lows b)
 
   waiters-same : waiters a ≡ waiters b
   unfolding waiter-slot
@@ -117,7 +121,7 @@ module _ (a b : Tables) (g : Shape a) (h : Shape b) (e : view a ≡ view b) wher
   idles-same = bench (a .idles) (b .idles) (g .idles-long) (h .idles-long) (λ k l. ap (λ (s : book.Seat). s .idle) (seat-same k l)) (g .no-idle) (h .no-idle)
 
   seats-same : seats a ≡ seats b
-  seats-same = λ i. occupant (running-same i) ++ (away (runners-same i) ++ (readies-same i ++ waiters-same i))
+  seats-same = λ i. occupant (running-same i) ++ (away (runners-same i) ++ (highs-same i ++ lows-same i ++ waiters-same i))
 
   living-same : map (row a) (seats a) ≡ map (row b) (seats b)
   living-same = sym (seats-living a g) ∙ ap living e ∙ seats-living b h
@@ -191,7 +195,8 @@ module _ (a b : Tables) (g : Shape a) (h : Shape b) (e : view a ≡ view b) wher
 
   pub view-unique : a ≡ b
   view-unique =
-      let ready = line-unique (g .ready-line) (h .ready-line) readies-same in
+      let high = line-unique (g .high-line) (h .high-line) highs-same in
+      let low = line-unique (g .low-line) (h .low-line) lows-same in
       let waits = line-unique (g .waits-line) (h .waits-line) waiters-same in
       let ids = array (a .ids) (b .ids) (g .ids-long) (h .ids-long) ids-same in
       let taken : a .taken ≡ b .taken = g .taken-mask ∙ ap (mask-of-taken base-slots) ids ∙ sym (h .taken-mask) in
@@ -211,8 +216,11 @@ module _ (a b : Tables) (g : Shape a) (h : Shape b) (e : view a ≡ view b) wher
         handles = handles i;
         times = times i;
         lines = lines i;
-        ready = ready .0 i;
-        nready = ready .1 i;
+        high = high .0 i;
+        nhigh = high .1 i;
+        low = low .0 i;
+        nlow = low .1 i;
+        four = e i .four;
         waits = waits .0 i;
         nwaits = waits .1 i;
         running = running-same i;

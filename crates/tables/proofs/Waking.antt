@@ -2,7 +2,7 @@
 -- Assumes nothing.
 use mathlib.Core.Path.{_≡_, refl, sym, ap, ap₂, _∙_}
 use mathlib.Core.Bool.{Bool}
-use mathlib.Core.List.{List, [], _∷_, _++_, map, map-append, append-nil}
+use mathlib.Core.List.{List, [], _∷_, map, append-nil}
 use Prim.Native.Nat.{ℕ, _+_, _-_, _^_, _<_, _≤_}
 use native.Mathlib.Omega.{arith}
 use native.Mathlib.Decide.{ℕ-discrete}
@@ -10,24 +10,29 @@ use lib.ListN.{length, getD, set, length-set}
 use lib.Seq.{getD-take, getD-set-same, getD-set-other}
 use Rattle.rules.specs.Words.{those, front, without}
 use Rattle.rules.specs.Numbers.{base-slots}
-use Rattle.rules.specs.Machine.{Process, Waiter, with-lines, at, line, wake}
+use Rattle.rules.specs.Machine as book
+use Rattle.rules.specs.Machine.{Process, Waiter, with-places, with-ready, at, line, wake}
 use Rattle.rules.specs.Answers.{mask}
-use Rattle.lines.specs.Lines.{occ, one, taken-out, removed, first-where, in-lines}
+use Rattle.lines.specs.Lines.{InSlots, occ, one, taken-out, removed, first-where, in-lines}
 use Rattle.lines.specs.declared.Found.the-variants.{At, Nothing}
-use Rattle.lines.proofs.Occ.{one-same, one-other, occ-snoc, occ-taken-out}
-use Rattle.lines.proofs.Laws.{line-size, push-view, push-line, removed-view, removed-line, first-in}
+use Rattle.lines.proofs.Occ.{one-same, one-other, occ-taken-out}
+use Rattle.lines.proofs.Laws.{line-size, removed-view, removed-line, first-in}
 use Rattle.lines.proofs.Bridge.{without-map, without-same, front-map, occ-at, map-apart, found-front, found-without, found-nobody, found-none}
 use Rattle.tables.specs.declared.Tables.{Tables}
 use Rattle.tables.specs.Codes.{decode, last-code}
-use Rattle.tables.specs.View.{row, waiter, readies, waiters, view, live, Shape}
-use Rattle.tables.specs.Contracts.{Wakes}
+use Rattle.tables.specs.View.{row, waiter, waiters, view, live, Shape}
+use Rattle.tables.specs.Contracts.{lined-up, Wakes}
 use Rattle.tables.proofs.Coding.{one-code}
 use Rattle.tables.proofs.Seats.{Waits, occ-seats, waits-seat, waiting, room-both, at-line, line-of}
-use Rattle.tables.proofs.Moves.{put-places, moved-shape}
+use Rattle.tables.proofs.Lining.{high-lined, low-lined, occ-lined, lined-seen}
+use Rattle.tables.proofs.Moves.{put-waits, moved-shape, one-slot, occ-alone}
 
--- the machine with place i of the waiting made ready
+-- the machine with place i of the waiting taken out, and then made ready
+abbrev pub drawn : Tables → ℕ → Tables
+drawn m i = put-waits (removed (m .waits) (m .nwaits) i) (m .nwaits - 1) (set (m .lines) (getD (m .waits) i 0) 0) m
+
 abbrev pub awake : Tables → ℕ → Tables
-awake m i = put-places (m .running) (set (m .ready) (m .nready) (getD (m .waits) i 0)) (m .nready + 1) (removed (m .waits) (m .nwaits) i) (m .nwaits - 1) (set (m .lines) (getD (m .waits) i 0) 0) m
+awake m i = lined-up (getD (m .waits) i 0 ∷ []) (drawn m i)
 
 module _ (m : Tables) (g : Shape m) (c : ℕ) (lo : 1 ≤ c) (hi : c ≤ last-code) where
   abbrev in-line : ℕ → Bool
@@ -48,9 +53,9 @@ module _ (m : Tables) (g : Shape m) (c : ℕ) (lo : 1 ≤ c) (hi : c ≤ last-co
       let none : line (decode c) (view m) ≡ [] = line-of m g (decode c) in-line waits-at ∙ ap (map (row m)) (found-none in-line (waiters m) 0 e) in
       record {
         seen = sym (
-            ap₂ (λ (q : List Process) (w : List Waiter). with-lines (view m .running) q w (view m))
-            (ap (λ (l : List Process). view m .ready ++ front l) none ∙ append-nil (view m .ready))
-            (waits-without ∙ ap (map (waiter m)) (found-nobody in-line (waiters m) 0 e))
+            ap₂ (λ (ps : List Process) (w : List Waiter). book.joined (front ps) (with-places (view m .running) w (view m)))
+            none (waits-without ∙ ap (map (waiter m)) (found-nobody in-line (waiters m) 0 e))
+            ∙ ap₂ (λ (h l : List Process). with-ready h l (m .four) (view m)) (append-nil (view m .high)) (append-nil (view m .low))
             );
         told = sym (ap (λ (l : List Process). mask (front l)) none);
         still = refl;
@@ -83,11 +88,14 @@ module _ (m : Tables) (g : Shape m) (c : ℕ) (lo : 1 ≤ c) (hi : c ≤ last-co
     found-slot = waits-here .seat .slot
 
     -- whoever waits is not ready as well: there is room
-    pub wake-room : m .nready < base-slots
+    pub wake-room : m .nhigh + m .nlow + 1 ≤ base-slots
     wake-room = omega (arith, room-both m g, found-place)
 
-    joins : readies r ≡ readies m ++ (s ∷ [])
-    joins = push-view base-slots (m .ready) (m .nready) s (g .ready-line) wake-room
+    abbrev d : Tables
+    d = drawn m i
+
+    slots : InSlots base-slots (s ∷ [])
+    slots = one-slot s found-slot
 
     leaves : waiters r ≡ taken-out i (waiters m)
     leaves = removed-view base-slots (m .waits) (m .nwaits) i (g .waits-line) found-place
@@ -123,13 +131,13 @@ module _ (m : Tables) (g : Shape m) (c : ℕ) (lo : 1 ≤ c) (hi : c ≤ last-co
     pub wake-some : Wakes (decode c) m (record { tables = r; woken = 2 ^ s })
     unfolding wake mask
     wake-some = record {
-      seen = ap₂ (λ (q : List Process) (w : List Waiter). with-lines (view m .running) q w (view m))
-          (ap (map (row m)) joins ∙ map-append (row m) (readies m) (s ∷ []) ∙ ap (λ (l : List Process). view m .ready ++ l) (sym first-one))
-          rest-stay;
+      seen =
+          lined-seen d (g .high-line) (g .low-line) (s ∷ []) wake-room
+          ∙ ap₂ (λ (ps : List Process) (w : List Waiter). book.joined ps (with-places (view m .running) w (view m))) (sym first-one) rest-stay;
       told = sym (ap mask first-one ∙ add0 (2 ^ s));
       still = refl;
-      shape = moved-shape m g (m .running) _ _ _ _ _ (g .runner) (push-line base-slots (m .ready) (m .nready) s (g .ready-line) wake-room found-slot) (removed-line base-slots (m .waits) (m .nwaits) i (g .waits-line) found-place) (simp length-set (g .lines-long))
-          (λ x b. omega (arith, occ-seats m x, occ-seats r x, ap (occ x) joins, occ-snoc x (readies m) s, counted x))
+      shape = moved-shape m g (m .running) (m .four) _ _ _ _ _ _ _ (g .runner) (high-lined d (g .high-line) (g .low-line) (s ∷ []) wake-room slots) (low-lined d (g .high-line) (g .low-line) (s ∷ []) wake-room slots) (removed-line base-slots (m .waits) (m .nwaits) i (g .waits-line) found-place) (simp length-set (g .lines-long))
+          (λ x b. omega (arith, occ-seats m x, occ-seats r x, occ-lined d (g .high-line) (g .low-line) (s ∷ []) wake-room x, occ-alone x s, counted x))
           (λ x b. coded-now x b (ℕ-discrete x s));
     }
       where

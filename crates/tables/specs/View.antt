@@ -57,13 +57,20 @@ readingsOf now n = 0 ∷ table 7 (λ k. if ltb (suc k) n then now else 0)
 abbrev pub seat-at : Tables → ℕ → Seat
 seat-at m k = seat (row m) (getD (m .runners) k 0) (getD (m .lasts) k 0) (getD (m .idles) k 0)
 
+-- the high and the low ready line; who is ready, in either
+abbrev pub highs : Tables → List ℕ
+highs m = take (m .nhigh) (m .high)
+
+abbrev pub lows : Tables → List ℕ
+lows m = take (m .nlow) (m .low)
+
 abbrev pub readies : Tables → List ℕ
-readies m = take (m .nready) (m .ready)
+readies m = highs m ++ lows m
 
 abbrev pub waiters : Tables → List ℕ
 waiters m = take (m .nwaits) (m .waits)
 
--- the slots of the living: who runs, here and on the other processors, the ready line, those who wait
+-- the slots of the living: who runs, here and on the other processors, the ready lines, those who wait
 abbrev pub seats : Tables → List ℕ
 seats m = occupant (m .running) ++ (away (m .runners) ++ (readies m ++ waiters m))
 
@@ -72,7 +79,9 @@ view m = record {
   slots = base-slots;
   ceilings = m .ceilings;
   running = map (row m) (occupant (m .running));
-  ready = map (row m) (readies m);
+  high = map (row m) (highs m);
+  low = map (row m) (lows m);
+  four = m .four;
   waiting = map (waiter m) (waiters m);
   sems = m .sems;
   next = m .next;
@@ -90,7 +99,7 @@ view m = record {
 abbrev pub live : ℕ → ℕ
 live x = if eqb x 0 then 0 else 1
 
--- how the tables are laid out: whole arrays; two lines with zeros behind them; each taken slot in one place and each
+-- how the tables are laid out: whole arrays; three lines with zeros behind them; each taken slot in one place and each
 -- free one in none; a line's code exactly where a slot waits; parents alive and older; zeros in free rows and where
 -- there is no processor; and the times of all slots, idle of all processors and ended add up
 pub record Shape (m : Tables) : Type 0 where
@@ -104,7 +113,8 @@ pub record Shape (m : Tables) : Type 0 where
   pub lines-long : length (m .lines) ≡ base-slots
   pub sems-long : length (m .sems) ≡ base-sems
   pub ceilings-long : length (m .ceilings) ≡ base-customers
-  pub ready-line : Line base-slots (m .ready) (m .nready)
+  pub high-line : Line base-slots (m .high) (m .nhigh)
+  pub low-line : Line base-slots (m .low) (m .nlow)
   pub waits-line : Line base-slots (m .waits) (m .nwaits)
   pub runner : m .running ≤ base-slots
   pub homes : (s : ℕ) → s < base-slots → occ s (seats m) ≡ live (getD (m .ids) s 0)

@@ -44,9 +44,10 @@ impl Tables {
         strike(&mut self.handles, &doomed);
         strike_times(&mut self.times, &doomed);
         strike_bytes(&mut self.lines, &doomed);
-        let n = self.nready;
-        let k = drop_marked(&mut self.ready, n, &doomed);
-        self.nready = k;
+        let h = self.nhigh;
+        self.nhigh = drop_marked(&mut self.high, h, &doomed);
+        let l = self.nlow;
+        self.nlow = drop_marked(&mut self.low, l, &doomed);
         let w = self.nwaits;
         let j = drop_marked(&mut self.waits, w, &doomed);
         self.nwaits = j;

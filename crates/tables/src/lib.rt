@@ -32,11 +32,11 @@ pub const HALTED: u8 = 1;
 pub const PANICKED: u8 = 2;
 
 // By slot: ids (0 is free), with the taken slots as a mask beside them; the parent's slot and one more (0 is none),
-// customers, priorities, handles, times, and the code of the line that a slot waits in (0 is none). The ready line and
-// the waiting, slots in order, each with its length. By customer: how many it may have alive. Of the processor whose
-// event is in hand: who runs (the number of slots stands for nobody), the last clock reading, idle time. The same by
-// processor, who runs being its slot and one more (0 is nobody); and how many processors there are. Free rows and
-// unused places are zero.
+// customers, priorities, handles, times, and the code of the line that a slot waits in (0 is none). The high and the
+// low ready line and the waiting, slots in order, each with its length; the count of four. By customer: how many it may
+// have alive. Of the processor whose event is in hand: who runs (the number of slots stands for nobody), the last clock
+// reading, idle time. The same by processor, who runs being its slot and one more (0 is nobody); and how many
+// processors there are. Free rows and unused places are zero.
 pub struct Tables {
     pub ids: [u32; SLOTS],
     pub taken: u64,
@@ -46,8 +46,11 @@ pub struct Tables {
     pub handles: [u32; SLOTS],
     pub times: [u64; SLOTS],
     pub lines: [u8; SLOTS],
-    pub ready: [u8; SLOTS],
-    pub nready: usize,
+    pub high: [u8; SLOTS],
+    pub nhigh: usize,
+    pub low: [u8; SLOTS],
+    pub nlow: usize,
+    pub four: u8,
     pub waits: [u8; SLOTS],
     pub nwaits: usize,
     pub running: usize,

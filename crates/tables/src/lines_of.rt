@@ -1,15 +1,18 @@
-// Who goes where: to the end of the ready line, to the end of a waiting line, and back to the ready line.
+// Who goes where: to the end of a ready line, to the end of a waiting line, and back to a ready line.
+ghost use mathlib.Core.Path.{_≡_};
+ghost use mathlib.Core.List.{[], _∷_};
 ghost use Prim.Native.Nat.{_<_, _≤_};
 ghost use Rattle.rules.specs.Numbers.{base-slots};
 ghost use Rattle.rules.specs.Machine.{back, block};
 ghost use Rattle.rules.specs.Rules.{schedule};
 ghost use Rattle.tables.specs.Codes.{decode, last-code};
 ghost use Rattle.tables.specs.View.{view, Shape};
-ghost use Rattle.tables.specs.Contracts.{Comes, Wakes, Ticks};
+ghost use Rattle.tables.specs.Contracts.{lined-up, Comes, Wakes, Ticks};
 use crate::CLOCK;
 use crate::Settled;
 use crate::Tables;
 use crate::Woken;
+use choices::is_high;
 use lines::Found;
 use lines::append_marked;
 use lines::drop_marked;
@@ -24,16 +27,30 @@ use rules::Answer;
 use rules::SLOTS;
 
 impl Tables {
+    // 'In 01 "the ready line" becomes the line of the process's own priority': a slot joins it, at its end.
+    pub fn joins(mut self, slot: u8) -> Tables
+        requires { ⌜ (slot < base-slots) × (self .nhigh < base-slots) × (self .nlow < base-slots) ⌝ }
+        ensures { λ r. ⌜ r ≡ lined-up (slot ∷ []) self ⌝ }
+    {
+        if is_high(self.priorities[slot as usize]) {
+            let n = self.nhigh;
+            self.nhigh = push(&mut self.high, n, slot);
+            return self;
+        }
+        let n = self.nlow;
+        self.nlow = push(&mut self.low, n, slot);
+        self
+    }
+
     // "The running process goes to the end of the ready line, then schedule."
     pub fn back(mut self, x: Answer) -> Settled
         requires { ⌜ Shape self × (self .running < base-slots) ⌝ }
         ensures { λ r. ⌜ Comes (schedule x (back (view self))) r ⌝ }
     {
         let at = self.running;
-        let n = self.nready;
-        self.nready = push(&mut self.ready, n, at as u8);
         self.running = SLOTS;
-        self.schedule(x)
+        let m = self.joins(at as u8);
+        m.schedule(x)
     }
 
     // "It joins the end of that line, and schedule."
@@ -66,29 +83,29 @@ impl Tables {
         remove_at(&mut self.waits, w, i);
         self.nwaits = w - 1;
         self.lines[s] = 0;
-        let n = self.nready;
-        self.nready = push(&mut self.ready, n, slot);
         let bit = power(s);
+        let m = self.joins(slot);
         Woken {
-            tables: self,
+            tables: m,
             woken: bit,
         }
     }
 
-    // "All who wait for the pseudo-clock go to the ready line, first come first."
+    // "All who wait for the pseudo-clock go to the ready line, first come first": each to the end of its own.
     pub fn tick(mut self) -> Woken
         requires { ⌜ Shape self ⌝ }
         ensures { λ r. ⌜ Ticks self r ⌝ }
     {
         let w = self.nwaits;
-        let n = self.nready;
         let up = marks_at(&self.lines, CLOCK);
         let bits = mask(&up);
         let old = self.waits;
-        append_marked(&mut self.ready, n, &old, w, &up);
-        let left = drop_marked(&mut self.waits, w, &up);
-        self.nwaits = left;
-        self.nready = n + (w - left);
+        let ranks = self.priorities;
+        let h = self.nhigh;
+        self.nhigh = append_marked(&mut self.high, h, &old, w, &up, &ranks, true);
+        let l = self.nlow;
+        self.nlow = append_marked(&mut self.low, l, &old, w, &up, &ranks, false);
+        self.nwaits = drop_marked(&mut self.waits, w, &up);
         strike_bytes(&mut self.lines, &up);
         Woken {
             tables: self,

@@ -1,11 +1,13 @@
 // "Schedule: first in the ready line runs. If the line is empty: nobody alive, halt; someone waiting on a nucleus line,
-// wait; otherwise panic." (xiii): "a processor waits also when another is running somebody".
+// wait; otherwise panic." (xiii): "a processor waits also when another is running somebody". (vi): "choosing the next
+// now means first of the high line, or of the low if that is empty, but when four high ones in a row were chosen while
+// a low one was waiting, the first low one".
 ghost use mathlib.Core.Path.{_≡_};
 ghost use Prim.Native.Nat.{_<_};
 ghost use Rattle.rules.specs.Numbers.{base-slots};
 ghost use Rattle.rules.specs.Rules.{schedule, nobody-ready, carry-on, resume};
 ghost use Rattle.tables.specs.View.{view, row, Shape};
-ghost use Rattle.tables.specs.Contracts.{Comes};
+ghost use Rattle.tables.specs.Contracts.{run-next, Comes};
 use crate::CLOCK;
 use crate::FIRST_DEVICE;
 use crate::HALTED;
@@ -13,6 +15,8 @@ use crate::PANICKED;
 use crate::Settled;
 use crate::Tables;
 use answers::does;
+use choices::counted;
+use choices::takes_low;
 use lines::Found;
 use lines::find_between;
 use lines::remove_at;
@@ -22,9 +26,9 @@ use rules::SLOTS;
 use seats::somebody_runs;
 
 impl Tables {
-    // Nobody is ready, and nobody runs here.
+    // Nobody is ready, in either line, and nobody runs here: no choice is made, and the count of four stays.
     fn nobody_ready(mut self, x: Answer) -> Settled
-        requires { ⌜ Shape self × (self .running ≡ base-slots) × (self .nready ≡ 0) ⌝ }
+        requires { ⌜ Shape self × (self .running ≡ base-slots) × (self .nhigh ≡ 0) × (self .nlow ≡ 0) ⌝ }
         ensures { λ r. ⌜ Comes (nobody-ready x (view self)) r ⌝ }
     {
         if somebody_runs(&self.runners) {
@@ -58,24 +62,40 @@ impl Tables {
         }
     }
 
-    // The caller has put whoever ran elsewhere.
-    pub fn schedule(mut self, x: Answer) -> Settled
-        requires { ⌜ Shape self × (self .running ≡ base-slots) ⌝ }
-        ensures { λ r. ⌜ Comes (schedule x (view self)) r ⌝ }
+    // Who was chosen runs, and the choice is counted.
+    fn runs(mut self, slot: u8, count: u8, x: Answer) -> Settled
+        ensures { λ r. ⌜ r ≡ run-next slot count x self ⌝ }
     {
-        let n = self.nready;
-        if n == 0 {
-            return self.nobody_ready(x);
-        }
-        let slot = self.ready[0];
-        remove_at(&mut self.ready, n, 0);
-        self.nready = n - 1;
         self.running = slot as usize;
+        self.four = count;
         let run = does(Action::Run(slot), x);
         Settled {
             tables: self,
             answer: run,
         }
+    }
+
+    // The caller has put whoever ran elsewhere.
+    pub fn schedule(mut self, x: Answer) -> Settled
+        requires { ⌜ Shape self × (self .running ≡ base-slots) ⌝ }
+        ensures { λ r. ⌜ Comes (schedule x (view self)) r ⌝ }
+    {
+        let high = self.nhigh;
+        let low = self.nlow;
+        let count = counted(high, low, self.four);
+        if takes_low(high, low, self.four) {
+            let slot = self.low[0];
+            remove_at(&mut self.low, low, 0);
+            self.nlow = low - 1;
+            return self.runs(slot, count, x);
+        }
+        if high == 0 {
+            return self.nobody_ready(x);
+        }
+        let slot = self.high[0];
+        remove_at(&mut self.high, high, 0);
+        self.nhigh = high - 1;
+        self.runs(slot, count, x)
     }
 
     // "Caller carries on."

@@ -2,6 +2,7 @@
 
 use super::*;
 use crate::count::{EVENTS, SEEDS};
+use crate::ready::IN_A_ROW;
 use crate::{generate, line, log};
 
 const ZERO: [u32; SEMAPHORES] = [0; SEMAPHORES];
@@ -17,9 +18,13 @@ fn create(clock: u32, a0: i32, a1: u32, a3: u32) -> Event {
     Event { clock, processor: 0, kind: Kind::Call(Call { mode: Mode::Kernel, a0, a1, a2: 7, a3 }) }
 }
 
-/// A create whose a2 / 256 names a customer.
+/// A create whose a2 / 256 names a customer, of a low priority.
 fn names(customer: u32) -> Event {
-    let a2 = 256 * customer + 255;
+    birth(256 * customer + 255)
+}
+
+/// A create with this a2.
+fn birth(a2: u32) -> Event {
     Event { clock: 0, processor: 0, kind: Kind::Call(Call { mode: Mode::Kernel, a0: -1, a1: 0, a2, a3: 0 }) }
 }
 
@@ -249,7 +254,7 @@ fn semaphores() {
             (kernel(0, -4, 0), "0 on 0 - - - 0 0"),
         ],
     );
-    assert_eq!((desk.values[0], &desk.ready), (1, &VecDeque::from([1, 3])));
+    assert_eq!((desk.values[0], &desk.ready.low), (1, &VecDeque::from([1, 3])));
     // "V at the top, no handle (dies)"; with a handle it is passed up, and not carried out.
     let mut desk = fresh(31, VALUE_MAX);
     play(
@@ -298,7 +303,7 @@ fn devices() {
             (interrupt(0, 1, 0, 0), "0 run 0 - - - 0 0"),
         ],
     );
-    assert_eq!(desk.ready, [1, 2]);
+    assert_eq!(desk.ready.low, [1, 2]);
 }
 
 #[test]
@@ -346,7 +351,7 @@ fn killers_that_survive() {
             (kernel(10, -10, 0), "0 run 1 - - - 0 0"),
         ],
     );
-    assert_eq!((desk.running_at(0), &desk.ready), (Some(1), &VecDeque::from([4, 0])));
+    assert_eq!((desk.running_at(0), &desk.ready.low), (Some(1), &VecDeque::from([4, 0])));
     // Nobody else is ready: the killer runs again, also where others wait.
     let mut desk = family(2);
     play(
@@ -394,7 +399,7 @@ fn customers() -> Desk {
         }
         children.into_iter().for_each(|customer| assert!(desk.event(&names(customer)).newborn.is_some()));
     }
-    assert_eq!((desk.running_at(0), &desk.ready), (Some(5), &VecDeque::from([6, 1, 7, 2, 3, 4, 0, 8])));
+    assert_eq!((desk.running_at(0), &desk.ready.low), (Some(5), &VecDeque::from([6, 1, 7, 2, 3, 4, 0, 8])));
     desk
 }
 
@@ -634,7 +639,7 @@ fn kills_elsewhere() {
         [(at(1, kernel(32, -6, 0)), "0 on 1 2 - - 0 0"), (kernel(35, -1, 0), "0 on 0 3 2 - 0 0")],
     );
     leaves(&mut desk, kernel(40, -2, 2), "0 run 2 0 - - 0 2", 2);
-    assert_eq!((desk.ready.clone(), desk.running_at(1)), (VecDeque::from([0]), None));
+    assert_eq!((&desk.ready.low, desk.running_at(1)), (&VecDeque::from([0]), None));
     refuses(&desk, at(1, kernel(50, -6, 0)), 4);
     // "a gap during which such a kill came is wholly idle": from 32 to 60, beside the first 30.
     play(&mut desk, [(at(1, interrupt(60, 2, 0, 0)), "0 run 0 - - - 0 0")]);
@@ -674,6 +679,142 @@ fn kills_elsewhere() {
             (at(1, kernel(0, -2, 3)), "0 on 1 -1 - - 0 0"),
             (at(2, kernel(0, -2, 1)), "0 on 2 -1 - - 0 0"),
             (at(2, kernel(5, -6, 0)), "0 on 2 5 - - 0 0"),
+        ],
+    );
+}
+
+/// Id 1, low, with a child of each of these priorities, so that ids 2, 3, .. are in slots 1, 2, ..
+fn ranks(priorities: &[u32]) -> Desk {
+    let mut desk = family(0);
+    priorities.iter().for_each(|&a2| assert!(desk.event(&birth(a2)).newborn.is_some()));
+    desk
+}
+
+#[test]
+fn high_and_low() {
+    // "a2 mod 256 equal to 1 is high, all else low", whichever customer creates. Id 1 is low.
+    let mut desk = with_ceilings([20, 20, 20, 0, 0, 0, 0, 0, 0]);
+    for a2 in [0, 1, 2, 3, 129, 255, 256, 257, 511, 512, 513, 514] {
+        assert!(desk.event(&birth(a2)).newborn.is_some());
+    }
+    assert_eq!((&desk.ready.high, desk.process(8).customer), (&VecDeque::from([2, 8, 11]), 1));
+    assert_eq!(desk.ready.low, [1, 3, 4, 5, 6, 7, 9, 10, 12]);
+    play(&mut desk, [(kernel(0, -7, 0), "0 run 2 - - - 0 0"), (kernel(0, -7, 0), "0 run 8 - - - 0 0")]);
+    for a2 in [1, 2, 0x0901, 0x10001, 0xffff_ff01, 0xffff_ff02, 0x0100_0000] {
+        assert!(desk.event(&birth(a2)).newborn.is_some());
+    }
+    assert_eq!(desk.ready.high, [11, 13, 15, 16, 17]);
+    // Id 1 and a high one are woken by one tick: each to its own line, while whoever runs carries on.
+    play(&mut desk, [(interrupt(0, 2, 0, 0), "0 on 8 - - - 5 0")]);
+    assert_eq!((desk.ready.high.back(), desk.ready.low.back()), (Some(&2), Some(&0)));
+}
+
+#[test]
+fn four_in_a_row() {
+    // "when four high ones in a row were chosen while a low one was waiting, the first low one"
+    let turn = || kernel(0, -10, 0);
+    let mut desk = ranks(&[1, 1, 1, 1, 1, 0]);
+    play(
+        &mut desk,
+        [
+            (kernel(0, -7, 0), "0 run 1 - - - 0 0"),
+            (turn(), "0 run 2 - - - 0 0"),
+            (interrupt(0, 1, 0, 0), "0 run 3 - - - 0 0"),
+            (kernel(0, -7, 0), "0 run 4 - - - 0 0"),
+            (turn(), "0 run 6 - - - 0 0"),
+            // It "returns to nought when a low one is chosen".
+            (turn(), "0 run 5 - - - 0 0"),
+            (turn(), "0 run 1 - - - 0 0"),
+            (turn(), "0 run 2 - - - 0 0"),
+            (turn(), "0 run 4 - - - 0 0"),
+            (turn(), "0 run 6 - - - 0 0"),
+        ],
+    );
+    // "or at a choice made with the low line empty": a high one counts only where a low one waits.
+    let mut desk = ranks(&[1, 1]);
+    play(
+        &mut desk,
+        [
+            (kernel(0, -7, 0), "0 run 1 - - - 0 0"),
+            (turn(), "0 run 2 - - - 0 0"),
+            (turn(), "0 run 1 - - - 0 0"),
+            (birth(0), "0 on 1 4 3 - 0 0"),
+            (turn(), "0 run 2 - - - 0 0"),
+            (turn(), "0 run 1 - - - 0 0"),
+            (turn(), "0 run 2 - - - 0 0"),
+            (turn(), "0 run 1 - - - 0 0"),
+            // Four are counted. Its child ends, so that there is no first low one, and another is born.
+            (kernel(0, -2, 4), "0 run 2 0 - - 0 8"),
+            (birth(2), "0 on 2 5 3 - 0 0"),
+            (turn(), "0 run 1 - - - 0 0"),
+            (turn(), "0 run 2 - - - 0 0"),
+            (turn(), "0 run 1 - - - 0 0"),
+            (turn(), "0 run 2 - - - 0 0"),
+            (turn(), "0 run 3 - - - 0 0"),
+        ],
+    );
+}
+
+#[test]
+fn four_counted_over_a_wait() {
+    // Both lines empty is no choice. Id 1, low, and id 3, high, wait; id 2 yields before its low child
+    // until four are counted, and ends with it; the tick wakes both, and the low one runs.
+    let turn = || kernel(0, -10, 0);
+    let mut desk = ranks(&[1, 1]);
+    play(
+        &mut desk,
+        [
+            (kernel(0, -7, 0), "0 run 1 - - - 0 0"),
+            (birth(0), "0 on 1 4 3 - 0 0"),
+            (turn(), "0 run 2 - - - 0 0"),
+            (kernel(0, -7, 0), "0 run 1 - - - 0 0"),
+            (turn(), "0 run 1 - - - 0 0"),
+            (turn(), "0 run 1 - - - 0 0"),
+            (kernel(0, -2, 0), "0 wait - - - - 0 10"),
+            (interrupt(0, 3, 1, 0), "0 wait - - - 0 0 0"),
+            (interrupt(0, 2, 0, 0), "0 run 0 - - - 5 0"),
+            (turn(), "0 run 2 - - - 0 0"),
+        ],
+    );
+}
+
+#[test]
+fn killers_of_both_priorities() {
+    // "goes to the end of its ready line": a high killer before low ones, until four are counted.
+    let mut desk = ranks(&[0, 0, 0, 0, 0, 0, 1]);
+    desk.event(&kernel(0, -10, 0));
+    for slot in 1..=3 {
+        play(&mut desk, [(kernel(0, -2, slot + 1), &format!("0 run 7 0 - - 0 {}", 1 << slot))]);
+    }
+    play(
+        &mut desk,
+        [
+            (kernel(0, -2, 5), "0 run 5 0 - - 0 16"),
+            (kernel(0, -2, 7), "0 run 7 0 - - 0 64"),
+            (kernel(0, -2, 99), "0 on 7 -1 - - 0 0"),
+        ],
+    );
+    assert_eq!((&desk.ready.low, desk.ready.count), (&VecDeque::from([0, 5]), 1));
+}
+
+#[test]
+fn one_count_for_all_processors() {
+    let mut desk = several(3);
+    for a2 in [1, 1, 1, 1, 1, 0] {
+        desk.event(&birth(a2));
+    }
+    let tick = interrupt(0, 2, 0, 0);
+    play(
+        &mut desk,
+        [
+            (at(1, tick), "0 run 1 - - - 0 0"),
+            (at(2, tick), "0 run 2 - - - 0 0"),
+            (at(1, kernel(0, -7, 0)), "0 run 3 - - - 0 0"),
+            (at(0, kernel(0, -7, 0)), "0 run 4 - - - 0 0"),
+            (at(2, kernel(0, -7, 0)), "0 run 6 - - - 0 0"),
+            (at(1, kernel(0, -7, 0)), "0 run 5 - - - 0 0"),
+            // Nobody is started by a wake, whatever its priority.
+            (at(2, tick), "0 on 6 - - - 15 0"),
         ],
     );
 }
@@ -728,11 +869,15 @@ fn tables_stay_in_order() {
         let bytes = generate::log(seed, EVENTS);
         let log = log::open(&bytes).unwrap();
         let mut desk = log.start.desk();
+        let mut choices = Vec::new();
         for event in log.events {
             let before = desk.clone();
             let event = event.unwrap();
             let answer = desk.event(&event);
             in_order(&desk);
+            if let Action::Run(slot) = answer.action {
+                chosen_as_said(&mut choices, slot, &desk);
+            }
             own_family_ends(&before, &event, &answer);
             left_idle(&before, &event, &answer, &desk);
             assert_eq!(desk.ceilings, log.start.ceilings);
@@ -769,13 +914,29 @@ fn left_idle(before: &Desk, event: &Event, answer: &Answer, after: &Desk) {
     }
 }
 
+/// "first of the high line, or of the low if that is empty, but when four high ones in a row were chosen
+/// while a low one was waiting, the first low one", by all the choices so far: of a high one, and while
+/// a low one was waiting.
+fn chosen_as_said(choices: &mut Vec<(bool, bool)>, slot: usize, after: &Desk) {
+    let is_high = after.process(slot).is_high();
+    let high = is_high || !after.ready.high.is_empty();
+    let low = !is_high || !after.ready.low.is_empty();
+    let in_a_row = choices.iter().rev().take_while(|&&choice| choice == (true, true)).count();
+    assert_eq!(is_high, high && !(low && in_a_row == 4));
+    choices.push((is_high, low));
+}
+
 fn in_order(desk: &Desk) {
     let times: u64 = desk.living().map(|process| process.time).sum();
     let idle: u64 = desk.processors.iter().map(|processor| processor.idle).sum();
     assert_eq!(times + idle + desk.ended_time, desk.total);
     // "running on exactly one processor": each slot stands in one place, or the numbers differ.
     let mut places: Vec<(usize, Option<Line>)> = desk.runners().map(|slot| (slot, None)).collect();
-    places.extend(desk.ready.iter().map(|&slot| (slot, Some(Line::Ready))));
+    places.extend(desk.ready.high.iter().map(|&slot| (slot, Some(Line::High))));
+    places.extend(desk.ready.low.iter().map(|&slot| (slot, Some(Line::Low))));
+    assert!(desk.ready.high.iter().all(|&slot| desk.process(slot).is_high()));
+    assert!(desk.ready.low.iter().all(|&slot| !desk.process(slot).is_high()));
+    assert!(desk.ready.count <= IN_A_ROW);
     for (number, line) in desk.semaphores.iter().enumerate() {
         assert!(line.is_empty() || desk.values[number] == 0);
         places.extend(line.iter().map(|&slot| (slot, Some(Line::Semaphore(number)))));

@@ -1,6 +1,7 @@
 -- `create` meets its contract.
 use mathlib.Core.Path.{_≡_, sym, ap, _∙_, subst}
 use mathlib.Core.Bool.{false}
+use mathlib.Core.List.{[], _∷_}
 use Prim.Native.Nat.{_<_}
 use native.Mathlib.Omega.{arith}
 use borrow.Author.Needs.{needs}
@@ -12,11 +13,11 @@ use Rattle.rules.specs.declared.Answer.{Answer}
 use Rattle.rules.specs.Rules.{carry-on}
 use Rattle.answers.specs.Parts.{newborn-told}
 use Rattle.tables.specs.declared.Tables.{Tables}
-use Rattle.tables.specs.View.{row, view}
-use Rattle.tables.specs.Contracts.{Comes}
+use Rattle.tables.specs.View.{row, view, Shape}
+use Rattle.tables.specs.Contracts.{lined-up, Comes}
 use Rattle.tables.proofs.Choosing.{comes-by}
 use Rattle.tables.proofs.Seats.{room-beside}
-use Rattle.calls.proofs.Newborns.{born-with, born, bit-fits}
+use Rattle.calls.proofs.Newborns.{rowed, born, bit-fits}
 use Rattle.calls.proofs.Creating.{at-its-ceiling, child, found-slot, found-free, create-ids, create-ceiling, create-customer, create-slots, create-shape, create-born}
 use Rattle.calls.proofs.create.Statement.{statement}
 use Rattle.calls.proofs.create.Tie as tie
@@ -61,16 +62,13 @@ before-replies3 c = c .before
 abbrev before-known-told : tie.After-known-told → tie.After-s
 before-known-told c = c .before
 
-abbrev before-push-arg : tie.After-push-arg → tie.After-known-told
-before-push-arg c = c .before
-
-abbrev before-push : tie.After-push → tie.After-known-told
-before-push c = c .before .before
-
-abbrev before-power : tie.After-power → tie.After-push
+abbrev before-power : tie.After-power → tie.After-known-told
 before-power c = c .before
 
-abbrev before-says : tie.After-says → tie.After-power
+abbrev before-joins : tie.After-joins → tie.After-power
+before-joins c = c .before
+
+abbrev before-says : tie.After-says → tie.After-joins
 before-says c = c .before
 
 abbrev before-bears : tie.After-bears → tie.After-says
@@ -180,36 +178,18 @@ returns-3 c =
 cast-slot : tie.Need-cast-slot
 cast-slot c = omega (arith, slot c)
 
-push-requires : tie.Need-push-requires
-push-requires c κs =
-    let at-known-told = before-push-arg c in
-    let at-s = before-known-told at-known-told in
-    let at-lowest-free = before-s at-s in
-    let at-else2 = before-lowest-free at-lowest-free in
-    let at-at-ceiling = before-else2 at-else2 in
-    let st = start at-at-ceiling in
-    omega (arith, room-beside (st .args .t1) (st .pre .0) (st .pre .1))
-
 mul-t : tie.Need-mul-t
-mul-t c =
-    let at-known-told = before-push c in
-    omega (arith, slot at-known-told)
+mul-t c = omega (arith, slot c)
 
 element-write-t : tie.Need-element-write-t
-element-write-t c =
-    let at-known-told = before-push c in
-    slot at-known-told
+element-write-t c = slot c
 
 power-requires : tie.Need-power-requires
-power-requires c κs =
-    let at-known-told = before-push c in
-    omega (arith, slot at-known-told)
+power-requires c κs = omega (arith, slot c)
 
 add-t : tie.Need-add-t
 add-t c =
-    let at-push = before-power c in
-    let at-known-told = before-push at-push in
-    let k = at-known-told in
+    let k = before-power c in
     let st = start (k .before .before .before .before .before) in
     let s = k .before .s .given .0 .0 in
     omega (
@@ -226,14 +206,12 @@ add-t-2 c = search needs
 
 element-write-t-2 : tie.Need-element-write-t-2
 element-write-t-2 c =
-    let at-push = before-power c in
-    let at-known-told = before-push at-push in
+    let at-known-told = before-power c in
     slot at-known-told
 
 cast-t-2 : tie.Need-cast-t-2
 cast-t-2 c =
-    let at-push = before-power c in
-    let at-known-told = before-push at-push in
+    let at-known-told = before-power c in
     let at-s = before-known-told at-known-told in
     let at-lowest-free = before-s at-s in
     let at-else2 = before-lowest-free at-lowest-free in
@@ -241,36 +219,38 @@ cast-t-2 c =
 
 element-write-t-3 : tie.Need-element-write-t-3
 element-write-t-3 c =
-    let at-push = before-power c in
-    let at-known-told = before-push at-push in
+    let at-known-told = before-power c in
     slot at-known-told
 
 mul-t-2 : tie.Need-mul-t-2
 mul-t-2 c =
-    let at-push = before-power c in
-    let at-known-told = before-push at-push in
+    let at-known-told = before-power c in
     omega (arith, slot at-known-told)
 
 element-write-t-4 : tie.Need-element-write-t-4
 element-write-t-4 c =
-    let at-push = before-power c in
-    let at-known-told = before-push at-push in
+    let at-known-told = before-power c in
     slot at-known-told
 
 mul-t-3 : tie.Need-mul-t-3
 mul-t-3 c =
-    let at-push = before-power c in
-    let at-known-told = before-push at-push in
+    let at-known-told = before-power c in
     omega (arith, slot at-known-told)
 
 element-write-t-5 : tie.Need-element-write-t-5
 element-write-t-5 c =
-    let at-push = before-power c in
-    let at-known-told = before-push at-push in
+    let at-known-told = before-power c in
     slot at-known-told
 
 add-t-3 : tie.Need-add-t-3
 add-t-3 c = search needs
+
+joins-requires : tie.Need-joins-requires
+joins-requires c κs =
+    let at-known-told = before-power c in
+    let st = start (at-known-told .before .before .before .before .before) in
+    let room = room-beside (st .args .t1) (st .pre .0) (st .pre .1) in
+    (slot at-known-told, omega (arith, room), omega (arith, room))
 
 cast-says : tie.Need-cast-says
 cast-says c = search needs
@@ -281,31 +261,44 @@ says-requires c κs = search needs
 bears-requires : tie.Need-bears-requires
 bears-requires c κs = search needs
 
-carries-on-requires : tie.Need-carries-on-requires
-carries-on-requires c κs =
-    let k = c .before .before .before .before .before in
+-- the machine with the newborn in its line
+born-now : (c : tie.After-joins) → let k = c .before .before in let st = start (k .before .before .before .before .before) in
+    c .joins .result ≡ born (st .args .t1) (k .before .s .given .0 .0) (child (st .args .t1) (st .args .a2)) (st .args .a2) (st .args .a3)
+born-now c =
+    let k = before-power (before-joins c) in
     let at = k .before .before .before .before .before in
     let st = start at in
-    rw (c .before .before .before .push .ensures .0, c .before .before .before .push .ensures .1, c .before .before .power .ensures, at .before .before .before .before .before .child-of .ensures)
-    (create-shape (st .args .t1) (st .pre .0) (st .args .a2) (st .args .a3) (st .pre .1) (k .before .s .given .0 .0) (found k), st .pre .1)
+    let s = k .before .s .given .0 .0 in
+    c .joins .ensures
+    ∙ (λ i. lined-up (s ∷ []) (rowed (st .args .t1) s (before-joins c .power .ensures i) (before-at-ceiling at .child-of .ensures i) (st .args .a2) (st .args .a3)))
+
+carries-on-requires : tie.Need-carries-on-requires
+carries-on-requires c κs =
+    let at-joins = before-says (before-bears c) in
+    let k = before-power (before-joins at-joins) in
+    let st = start (k .before .before .before .before .before) in
+    let s = k .before .s .given .0 .0 in
+    let born-there = born-now at-joins in (
+      subst Shape (sym born-there) (create-shape (st .args .t1) (st .pre .0) (st .args .a2) (st .args .a3) (st .pre .1) s (found k)),
+      subst (λ (t : Tables). t .running < base-slots) (sym born-there) (st .pre .1),
+    )
 
 returns-4 : tie.Need-returns-4
 returns-4 c =
-    let k = c .before .before .before .before .before .before in
+    let at-bears = before-carries-on c in
+    let at-says = before-bears at-bears in
+    let at-joins = before-says at-says in
+    let k = before-power (before-joins at-joins) in
     let e = k .before .before .before .before in
     let at = e .before in
     let st = start at in
     let m = st .args .t1 in
     let s = k .before .s .given .0 .0 in
-    let pushed = c .before .before .before .before .push .ensures in
-    let theirs = at .before .before .before .before .before .child-of .ensures in
-    let told = c .before .bears .ensures ∙ ap (λ (z : Result). newborn-told z s) (c .before .before .says .ensures) in
+    let told = at-bears .bears .ensures ∙ ap (λ (z : Result). newborn-told z s) (at-says .says .ensures) in
     comes-by _ _ (c .carries-on .result)
     (create-born m (st .pre .0) (st .args .a2) (st .args .a3) (below e) (at .before .before .before .before .before .before .before .if1 .left) (st .pre .1) s (found k))
     (subst (λ (x : Answer). Comes (carry-on (row (born m s (child m (st .args .a2)) (st .args .a2) (st .args .a3)) (m .running)) x (view (born m s (child m (st .args .a2)) (st .args .a2) (st .args .a3)))) (c .carries-on .result)) told
-    (subst (λ (t : Tables). Comes (carry-on (row t (m .running)) (c .before .bears .result) (view t)) (c .carries-on .result))
-    (λ i. born-with m s (c .before .before .before .power .ensures i) (theirs i) (st .args .a2) (st .args .a3) (pushed .0 i) (pushed .1 i))
-    (c .carries-on .ensures)))
+    (subst (λ (t : Tables). Comes (carry-on (row t (t .running)) (at-bears .bears .result) (view t)) (c .carries-on .result)) (born-now at-joins) (c .carries-on .ensures)))
 
 pub create-spec : {M : Type 1} → statement M
 create-spec =
@@ -324,7 +317,6 @@ create-spec =
     replies-requires-3
     returns-3
     cast-slot
-    push-requires
     mul-t
     element-write-t
     power-requires
@@ -339,6 +331,7 @@ create-spec =
     mul-t-3
     element-write-t-5
     add-t-3
+    joins-requires
     cast-says
     says-requires
     bears-requires

@@ -1,12 +1,13 @@
--- `place_of`: who runs, whose line has a code, who is ready. Assumes nothing.
+-- `place_of`: who runs, and on which processor; who does not is in a line or nowhere. Assumes nothing.
 use mathlib.Core.Path.{_≡_, sym, ap, _∙_}
-use Prim.Native.Nat.{ℕ, suc, _+_}
+use Prim.Native.Nat.{ℕ, suc, _+_, _<_}
 use native.Mathlib.Omega.{arith}
-use lib.Dec.{eqb}
 use borrow.Author.Needs.{needs}
-use Rattle.rules.specs.Words.{any}
-use Rattle.looks.specs.declared.Place.the-variants.{Waiting}
-use Rattle.looks.proofs.Looking.{at-rest, place-none, place-running, place-ready, place-waiting}
+use Rattle.rules.specs.Numbers.{most-processors}
+use Rattle.lines.specs.Lines.{is-id, first-where}
+use Rattle.lines.specs.declared.Found.the-variants.{At}
+use Rattle.lines.proofs.Laws.{first-in}
+use Rattle.looks.proofs.Looking.{place-running}
 use Rattle.looks.proofs.place_of.Statement.{statement}
 use Rattle.looks.proofs.place_of.Tie as tie
 
@@ -14,11 +15,20 @@ use Rattle.looks.proofs.place_of.Tie as tie
 abbrev before-runs-on : tie.After-runs-on → tie.Start
 before-runs-on c = c .before .before .before
 
-abbrev before-then1 : tie.Then1 → tie.After-runs-on
-before-then1 c = c .before
+abbrev before-enum-told : tie.After-enum-told → tie.After-runs-on
+before-enum-told c = c .before .before
 
-abbrev before-else1 : tie.Else1 → tie.After-runs-on
-before-else1 c = c .before
+abbrev before-known-told : tie.After-known-told → tie.After-runs-on
+before-known-told c = c .before .before .before
+
+-- the processor that was found
+found : (c : tie.After-known-told) → let st = before-runs-on (before-known-told c) in first-where (is-id (st .args .slot + 1)) 0 (st .args .t1 .runners) ≡ At (c .before .k .given .0 .0)
+found c = sym (before-known-told c .runs-on .ensures) ∙ c .before .k .given .1
+
+few : (c : tie.After-known-told) → c .before .k .given .0 .0 < most-processors
+few c =
+    let st = before-runs-on (before-known-told c) in
+    omega (arith, first-in (is-id (st .args .slot + 1)) (st .args .t1 .runners) 0 (c .before .k .given .0 .0) (found c), st .pre .0 .shape .runners-long)
 
 cast-runs-on : tie.Need-cast-runs-on
 cast-runs-on c = search needs
@@ -29,53 +39,30 @@ add-runs-on c = search needs
 runs-on-requires : tie.Need-runs-on-requires
 runs-on-requires c κs = search needs
 
--- whether whoever is in the slot runs, by the seats' codes
-told : (c : tie.After-runs-on) → let st = before-runs-on c in any (λ d. eqb d (suc (st .args .slot))) (st .args .t1 .runners) ≡ c .runs-on .result
-told c =
-    let st = before-runs-on c in
-    let more : suc (st .args .slot) ≡ st .args .slot + 1 = omega arith in
-    ap (λ (n : ℕ). any (λ d. eqb d n) (st .args .t1 .runners)) more ∙ sym (c .runs-on .ensures)
+enum-known-k : tie.Need-enum-known-k
+enum-known-k c = search needs
+
+enum-told : tie.Need-enum-told
+enum-told c = search needs
+
+line-in-requires : tie.Need-line-in-requires
+line-in-requires c κs =
+    let at = before-enum-told c in
+    let st = before-runs-on at in
+    (st .pre .0, st .pre .1, sym (at .runs-on .ensures) ∙ c .enum-told .given .1)
 
 returns : tie.Need-returns
-returns c =
-    let at = before-then1 c in
-    let st = before-runs-on at in
-    sym (place-running (st .args .t1) (st .pre .0 .shape) (st .args .slot) (st .pre .1) (told at ∙ c .if1 .taken))
+returns c = search needs
 
-element-copy-out-code : tie.Need-element-copy-out-code
-element-copy-out-code c = search needs
-
-mul-if3 : tie.Need-mul-if3
-mul-if3 c = search needs
-
-element-copy-out-if3 : tie.Need-element-copy-out-if3
-element-copy-out-if3 c = search needs
+cast-t7 : tie.Need-cast-t7
+cast-t7 c = omega (arith, few c)
 
 returns-2 : tie.Need-returns-2
 returns-2 c =
-    let runs = c .before .before .before .before in
-    let st = before-runs-on (before-else1 runs) in
-    sym (place-none (st .args .t1) (st .pre .0 .shape) (st .args .slot) (c .if3 .taken))
-
-returns-3 : tie.Need-returns-3
-returns-3 c =
-    let coded = c .before .before in
-    let runs = coded .before .before in
-    let at = before-else1 runs in
-    let st = before-runs-on at in
-    let m = st .args .t1 in
-    let g = st .pre .0 in
-    sym (place-ready m (g .shape) (st .args .slot) (st .pre .1) (at-rest m (g .shape) (g .rests .nothing-here)) (told at ∙ runs .if1 .left) (coded .if2 .taken) (c .if3 .left))
-
-line-of-requires : tie.Need-line-of-requires
-line-of-requires c κs = search needs
-
-returns-4 : tie.Need-returns-4
-returns-4 c =
-    let coded = c .before in
-    let runs = coded .before .before in
-    let st = before-runs-on (before-else1 runs) in
-    ap Waiting (c .line-of .ensures) ∙ sym (place-waiting (st .args .t1) (st .pre .0 .shape) (st .args .slot) (st .pre .1) (coded .if2 .left))
+    let st = before-runs-on (before-known-told c) in
+    let more : suc (st .args .slot) ≡ st .args .slot + 1 = omega arith in
+    sym (place-running (st .args .t1) (st .pre .0 .shape) (st .args .slot) (c .before .k .given .0 .0)
+    (ap (λ (n : ℕ). first-where (is-id n) 0 (st .args .t1 .runners)) more ∙ found c))
 
 pub place-of-spec : {M : Type 1} → statement M
 place-of-spec =
@@ -84,11 +71,9 @@ place-of-spec =
     cast-runs-on
     add-runs-on
     runs-on-requires
+    enum-known-k
+    enum-told
+    line-in-requires
     returns
-    element-copy-out-code
-    mul-if3
-    element-copy-out-if3
-    returns-2
-    returns-3
-    line-of-requires
-    returns-4)
+    cast-t7
+    returns-2)

@@ -1,23 +1,18 @@
 -- `runs_on`: what is left to look at says the same as the whole. Assumes nothing.
 use mathlib.Core.Path.{_≡_, sym, _∙_}
-use mathlib.Core.Bool.{Bool}
-use Prim.Native.Nat.{ℕ, _-_, _≤_}
+use Prim.Native.Nat.{_-_, _≤_}
 use native.Mathlib.Omega.{arith}
 use borrow.Author.Tests.{eq-eqb, ne-eqb}
-use lib.Dec.{eqb}
 use lib.ListN.{drop}
-use Rattle.rules.specs.Words.{any}
 use Rattle.rules.specs.Numbers.{most-processors}
-use Rattle.starts.proofs.Remains.{any-here, any-later, any-nowhere}
+use Rattle.lines.specs.Lines.{is-id, first-where}
+use Rattle.lines.proofs.Turns.{first-hit, first-miss, first-none}
 use borrow.Author.Needs.{needs}
 use Rattle.looks.proofs.runs_on.Statement.{statement}
 use Rattle.looks.proofs.runs_on.Tie as tie
 
-abbrev is : ℕ → ℕ → Bool
-is code c = eqb c code
-
 abbrev Inv-loop : tie.InvT-loop
-Inv-loop runners code k₀ k = (any (is code) runners ≡ any (is code) (drop k runners)) × (k ≤ most-processors)
+Inv-loop runners code k₀ k = (first-where (is-id code) 0 runners ≡ first-where (is-id code) k (drop k runners)) × (k ≤ most-processors)
 
 abbrev μ-loop : tie.MeasureT-loop
 μ-loop runners code k₀ k = most-processors - k
@@ -31,7 +26,8 @@ element-copy-out-if1 c = search needs
 returns : tie.Need-returns Inv-loop μ-loop
 returns c =
     let lp = c .before .before .before in
-    sym (lp .loop .inv .0 ∙ any-here (is (lp .before .args .code)) (lp .before .args .runners .now) (lp .loop .k) (omega (arith, lp .before .pre, c .before .before .loop-test .taken)) (eq-eqb _ _ (c .if1 .taken)))
+    let a = lp .before .args in
+    sym (lp .loop .inv .0 ∙ first-hit (is-id (a .code)) (a .runners .now) (lp .loop .k) (omega (arith, lp .before .pre, c .before .before .loop-test .taken)) (eq-eqb _ _ (c .if1 .taken)))
 
 add-k : tie.Need-add-k Inv-loop μ-loop
 add-k c = search needs
@@ -41,13 +37,17 @@ loop-less c = search needs
 
 loop-again : tie.Need-loop-again Inv-loop μ-loop
 loop-again c =
-    let lp = c .before .before .before in (
-      lp .loop .inv .0 ∙ any-later (is (lp .before .args .code)) (lp .before .args .runners .now) (lp .loop .k) (omega (arith, lp .before .pre, c .before .before .loop-test .taken)) (ne-eqb _ _ (c .if1 .left)),
+    let lp = c .before .before .before in
+    let a = lp .before .args in (
+      lp .loop .inv .0 ∙ first-miss (is-id (a .code)) (a .runners .now) (lp .loop .k) (omega (arith, lp .before .pre, c .before .before .loop-test .taken)) (ne-eqb _ _ (c .if1 .left)),
       omega (arith, c .before .before .loop-test .taken),
     )
 
 returns-2 : tie.Need-returns-2 Inv-loop μ-loop
-returns-2 c = let d = c .before in sym (d .loop .inv .0 ∙ any-nowhere (is (d .before .args .code)) (d .before .args .runners .now) (d .loop .k) (omega (arith, d .before .pre)))
+returns-2 c =
+    let d = c .before in
+    let a = d .before .args in
+    sym (d .loop .inv .0 ∙ first-none (is-id (a .code)) (a .runners .now) (d .loop .k) (omega (arith, d .before .pre)))
 
 pub runs-on-spec : {M : Type 1} → statement M
 runs-on-spec =

@@ -4,7 +4,7 @@ use Rattle.rules.specs.Numbers.{base-slots}
 use native.Mathlib.Omega.{arith}
 use Prim.Native.Nat.{_-_}
 use Rattle.tables.proofs.Seats.{room-beside}
-use Rattle.tables.proofs.Moves.{put-places, blocked, block-step}
+use Rattle.tables.proofs.Moves.{put-waits, blocked, block-step}
 use Rattle.tables.proofs.Choosing.{then-schedule}
 use Rattle.rules.specs.Machine.{block}
 use Rattle.tables.specs.Codes.{decode}
@@ -13,7 +13,7 @@ use lib.ListN.{set}
 use Rattle.rules.specs.Rules.{schedule}
 use Rattle.tables.specs.declared.Tables.{Tables}
 use Rattle.tables.specs.View.{view}
-use Rattle.tables.specs.Contracts.{Comes}
+use Rattle.tables.specs.Contracts.{put-running, Comes}
 use Rattle.tables.proofs.Tables.block.Statement.{statement}
 use Rattle.tables.proofs.Tables.block.Tie as tie
 
@@ -52,7 +52,7 @@ returns c =
     let k = st .args .code in
     then-schedule (block (decode k)) (st .args .x) m (blocked m k) (c .schedule .result) (block-step m (g .0) (g .1) k (g .2) (g .3))
     (subst (λ (j : Tables). Comes (schedule (st .args .x) (view j)) (c .schedule .result))
-    (λ i. put-places base-slots (m .ready) (m .nready) (at-push .push .ensures .0 i) (at-push .push .ensures .1 i) (set (m .lines) (m .running) k) m)
+    (λ i. put-running base-slots (m .four) (put-waits (at-push .push .ensures .0 i) (at-push .push .ensures .1 i) (set (m .lines) (m .running) k) m))
     (c .schedule .ensures))
 
 pub block-spec : {M : Type 1} → statement M

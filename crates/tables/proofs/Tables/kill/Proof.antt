@@ -75,14 +75,23 @@ before-doomed12 c = c .before .before
 abbrev before-drop-marked2 : tie.After-drop-marked2 → tie.After-drop-marked
 before-drop-marked2 c = c .before .before .before
 
--- from behind the second drop to where the function starts
+abbrev before-doomed13 : tie.After-doomed13 → tie.After-drop-marked2
+before-doomed13 c = c .before .before
+
+abbrev before-drop-marked3 : tie.After-drop-marked3 → tie.After-drop-marked2
+before-drop-marked3 c = before-doomed13 (c .before)
+
+-- from behind the second and the third drop to where the function starts
 abbrev from-drop-marked2 : tie.After-drop-marked2 → tie.Start
 from-drop-marked2 c = from-strike2 (before-strike3 (before-strike-times (before-strike-bytes3 (before-drop-marked (before-drop-marked2 c)))))
 
-abbrev before-doomed13 : tie.After-doomed13 → tie.After-drop-marked2
-before-doomed13 c = c .before .before .before
+abbrev from-drop-marked3 : tie.After-drop-marked3 → tie.Start
+from-drop-marked3 c = from-drop-marked2 (before-drop-marked3 c)
 
-abbrev before-leaving : tie.After-leaving → tie.After-drop-marked2
+abbrev before-doomed14 : tie.After-doomed14 → tie.After-drop-marked3
+before-doomed14 c = c .before .before .before
+
+abbrev before-leaving : tie.After-leaving → tie.After-drop-marked3
 before-leaving c = c .before .before .before .before
 
 abbrev before-mask2 : tie.After-mask2 → tie.After-leaving
@@ -166,7 +175,7 @@ drop-marked-requires c κs =
     let at-strike3 = before-strike-times at-strike-times in
     let at-strike2 = before-strike3 at-strike3 in
     let st = from-strike2 at-strike2 in
-    let l = st .pre .0 .ready-line in
+    let l = st .pre .0 .high-line in
     (l .room, l .long, l .slots)
 
 drop-marked-requires-2 : tie.Need-drop-marked-requires-2
@@ -177,13 +186,18 @@ drop-marked-requires-2 c κs =
     let at-strike3 = before-strike-times at-strike-times in
     let at-strike2 = before-strike3 at-strike3 in
     let st = from-strike2 at-strike2 in
+    let l = st .pre .0 .low-line in
+    (l .room, l .long, l .slots)
+
+drop-marked-requires-3 : tie.Need-drop-marked-requires-3
+drop-marked-requires-3 c κs =
+    let st = from-drop-marked2 (before-doomed13 c) in
     let l = st .pre .0 .waits-line in
     (l .room, l .long, l .slots)
 
 leaving-requires : tie.Need-leaving-requires
 leaving-requires c κs =
-    let at-drop-marked2 = before-doomed13 c in
-    let st = from-drop-marked2 at-drop-marked2 in
+    let st = from-drop-marked3 (before-doomed14 c) in
     (st .pre .0 .runners-long, st .pre .0 .in-seats)
 
 mask-requires-2 : tie.Need-mask-requires-2
@@ -193,15 +207,15 @@ strike-requires-4 : tie.Need-strike-requires-4
 strike-requires-4 c κs =
     let at-mask2 = before-left2 c in
     let at-leaving = before-mask2 at-mask2 in
-    let at-drop-marked2 = before-leaving at-leaving in
-    let st = from-drop-marked2 at-drop-marked2 in
+    let st = from-drop-marked3 (before-leaving at-leaving) in
     st .pre .0 .runners-long
 
 returns : tie.Need-returns
 returns c =
     let at-mask2 = before-strike4 c in
     let at-leaving = before-mask2 at-mask2 in
-    let at-drop-marked2 = before-leaving at-leaving in
+    let at-drop-marked3 = before-leaving at-leaving in
+    let at-drop-marked2 = before-drop-marked3 at-drop-marked3 in
     let at-drop-marked = before-drop-marked2 at-drop-marked2 in
     let at-strike-bytes3 = before-drop-marked at-drop-marked in
     let at-strike-times = before-strike-bytes3 at-strike-bytes3 in
@@ -231,10 +245,13 @@ returns c =
         handles = sym (at-strike3 .strike3 .ensures) i;
         times = sym (at-strike-times .strike-times .ensures) i;
         lines = sym (at-strike-bytes3 .strike-bytes3 .ensures) i;
-        ready = sym (at-drop-marked .drop-marked .ensures .1) i;
-        nready = sym (at-drop-marked .drop-marked .ensures .0) i;
-        waits = sym (at-drop-marked2 .drop-marked2 .ensures .1) i;
-        nwaits = sym (at-drop-marked2 .drop-marked2 .ensures .0) i;
+        high = sym (at-drop-marked .drop-marked .ensures .1) i;
+        nhigh = sym (at-drop-marked .drop-marked .ensures .0) i;
+        low = sym (at-drop-marked2 .drop-marked2 .ensures .1) i;
+        nlow = sym (at-drop-marked2 .drop-marked2 .ensures .0) i;
+        four = m .four;
+        waits = sym (at-drop-marked3 .drop-marked3 .ensures .1) i;
+        nwaits = sym (at-drop-marked3 .drop-marked3 .ensures .0) i;
         running = sym (at-spared .spared .ensures) i;
         sems = m .sems;
         ceilings = m .ceilings;
@@ -273,6 +290,7 @@ kill-spec =
     strike-bytes-requires-3
     drop-marked-requires
     drop-marked-requires-2
+    drop-marked-requires-3
     leaving-requires
     mask-requires-2
     strike-requires-4

@@ -72,7 +72,7 @@ returns-2 c =
     let at-then2 = before-does2 c in
     let at-else1 = before-then2 at-then2 in
     let st = before-somebody-runs (before-else1 at-else1) in
-    rw (c .does2 .ensures) (halt-comes (st .args .x) (st .args .t1) (st .pre .0) (st .pre .1) (st .pre .2) (alone at-else1) (at-then2 .if2 .taken))
+    rw (c .does2 .ensures) (halt-comes (st .args .x) (st .args .t1) (st .pre .0) (st .pre .1) (st .pre .2) (st .pre .3) (alone at-else1) (at-then2 .if2 .taken))
 
 find-between-requires : tie.Need-find-between-requires
 find-between-requires c κs = search needs

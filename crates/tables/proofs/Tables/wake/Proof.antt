@@ -26,13 +26,7 @@ before-remove-at-arg c = c .before .before .before
 abbrev before-remove-at : tie.After-remove-at → tie.After-i
 before-remove-at c = c .before .before .before .before
 
-abbrev before-push-arg : tie.After-push-arg → tie.After-remove-at
-before-push-arg c = c .before
-
-abbrev before-push : tie.After-push → tie.After-remove-at
-before-push c = c .before .before
-
-abbrev before-power : tie.After-power → tie.After-push
+abbrev before-power : tie.After-power → tie.After-remove-at
 before-power c = c .before
 
 find-between-requires : tie.Need-find-between-requires
@@ -84,28 +78,31 @@ element-write-self c =
     let st = before-find-between at-find-between in
     found-slot (st .args .t1) (st .pre .0) (st .args .code) (st .pre .1) (st .pre .2) _ (sym (at-find-between .find-between .ensures) ∙ at-i .i .given .1)
 
-push-requires : tie.Need-push-requires
-push-requires c κs =
-    let at-remove-at = before-push-arg c in
-    let at-i = before-remove-at at-remove-at in
-    let at-find-between = before-i at-i in
-    let st = before-find-between at-find-between in
-    wake-room (st .args .t1) (st .pre .0) (st .args .code) (st .pre .1) (st .pre .2) _ (sym (at-find-between .find-between .ensures) ∙ at-i .i .given .1)
-
 power-requires : tie.Need-power-requires
 power-requires c κs =
-    let at-remove-at = before-push c in
-    let at-i = before-remove-at at-remove-at in
+    let at-i = before-remove-at c in
     let at-find-between = before-i at-i in
     let st = before-find-between at-find-between in
     found-slot (st .args .t1) (st .pre .0) (st .args .code) (st .pre .1) (st .pre .2) _ (sym (at-find-between .find-between .ensures) ∙ at-i .i .given .1)
 
-returns-2 : tie.Need-returns-2
-returns-2 c =
-    let at-i = c .before .before .before .before .before .before .before in
+joins-requires : tie.Need-joins-requires
+joins-requires c κs =
+    let at-remove-at = before-power c in
+    let at-i = before-remove-at at-remove-at in
     let at-find-between = before-i at-i in
     let st = before-find-between at-find-between in
-    rw (c .power .ensures, c .before .push .ensures .0, c .before .push .ensures .1, c .before .before .before .remove-at .ensures)
+    let found = sym (at-find-between .find-between .ensures) ∙ at-i .i .given .1 in
+    let room = wake-room (st .args .t1) (st .pre .0) (st .args .code) (st .pre .1) (st .pre .2) _ found in
+    (found-slot (st .args .t1) (st .pre .0) (st .args .code) (st .pre .1) (st .pre .2) _ found, omega (arith, room), omega (arith, room))
+
+returns-2 : tie.Need-returns-2
+returns-2 c =
+    let at-power = c .before in
+    let at-remove-at = before-power at-power in
+    let at-i = before-remove-at at-remove-at in
+    let at-find-between = before-i at-i in
+    let st = before-find-between at-find-between in
+    rw (c .joins .ensures, at-power .power .ensures, at-remove-at .remove-at .ensures)
     (wake-some (st .args .t1) (st .pre .0) (st .args .code) (st .pre .1) (st .pre .2) (at-i .i .given .0 .0) (sym (at-find-between .find-between .ensures) ∙ at-i .i .given .1))
 
 pub wake-spec : {M : Type 1} → statement M
@@ -121,6 +118,6 @@ wake-spec =
     remove-at-requires
     sub-self
     element-write-self
-    push-requires
     power-requires
+    joins-requires
     returns-2)

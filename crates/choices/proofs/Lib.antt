@@ -1,0 +1,2 @@
+-- Laws of the choice, by how many are in each line.
+pub mod Turns

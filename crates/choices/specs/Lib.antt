@@ -1,0 +1,2 @@
+-- Whose line is whose.
+pub mod Lines
