@@ -109,7 +109,7 @@ impl Answer {
         }
     }
 
-    fn refused(refusal: Refusal) -> Self {
+    pub(crate) fn refused(refusal: Refusal) -> Self {
         Answer { refusal: Some(refusal), ..Answer::new(Action::None) }
     }
 
@@ -608,7 +608,7 @@ pub fn allow(
 
 impl Kind {
     /// "call, exception or line 1 while nobody is running"
-    fn needs_runner(&self) -> bool {
+    pub(crate) fn needs_runner(&self) -> bool {
         match self {
             Kind::Call(_) | Kind::Exception { .. } => true,
             Kind::Interrupt(interrupt) => interrupt.line == 1,

@@ -148,6 +148,15 @@ impl Generator {
         }
     }
 
+    /// A stream in a flood: two events in three are the flood's, and of the others' newborns half are high.
+    pub fn flood(seed: u64) -> Self {
+        let mut generator = Generator::stream(seed);
+        let usual: u32 = generator.mix.iter().map(|(_, often)| often).sum();
+        generator.mix.push((Generator::in_a_flood, 2 * usual));
+        generator.alarms = 4;
+        generator
+    }
+
     /// The same with so many processors.
     #[must_use]
     pub fn on_processors(mut self, processors: u8) -> Self {

@@ -11,3 +11,4 @@ pub mod pager;
 mod ready;
 pub mod rng;
 pub mod sleep;
+pub mod waits;

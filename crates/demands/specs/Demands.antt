@@ -16,7 +16,7 @@ use Rattle.rules.specs.Machine as book
 use Rattle.rules.specs.Machine.{Process, child-of, charge, processors, turn}
 use Rattle.rules.specs.Answers.{Outcome}
 use Rattle.rules.specs.Starts.{start-refusal, started}
-use Rattle.rules.specs.Rules.{step, clock, start, run}
+use Rattle.rules.specs.Rules.{step, clock, start, run, answers}
 use Rattle.rules.specs.Tables.{Rests}
 use Rattle.rules.proofs.Tables.{start-passed}
 use Rattle.rules.proofs.Arrivals.{arrives-in}
@@ -30,6 +30,7 @@ use Rattle.ledger.specs.Hands.{Other-runs, Hands-off}
 use Rattle.ledger.specs.Moves.{move, Moved}
 use Rattle.ledger.specs.Choices.{Choosing, Queued}
 use Rattle.ledger.specs.Order.{In-order, Nobody-overtakes}
+use Rattle.ledger.specs.Waits.{Waits}
 use Rattle.ledger.specs.Semaphores.{Semaphores}
 use Rattle.ledger.specs.Times.{Times}
 use Rattle.ledger.specs.Scheduling.{Scheduled}
@@ -39,7 +40,7 @@ use Rattle.desk.specs.declared.Started.{Started}
 use Rattle.desk.specs.declared.Answered.{Answered}
 use Rattle.desk.specs.View.{view}
 use Rattle.desk.specs.Contracts.{Starts, Answers}
-use Rattle.desk.specs.Lists.{Follows, after, told, of-code}
+use Rattle.desk.specs.Lists.{Follows, after, told, follows, of-code}
 
 -- an accepted start's machine, after any events, obeys the rule and is at rest
 ended : (number now : ℕ) (values ceilings : List ℕ) (es : List Arrival) → start-refusal base-slots number values ceilings ≡ 0
@@ -72,6 +73,8 @@ pub record Lawful (number now : ℕ) (values ceilings : List ℕ) (es : List Arr
   pub choosing : (k : ℕ) (e : Event) → accepted (step (turn k end) e .answer) ≡ true → Choosing (turned k (past (beginning number now) es said)) e (step (turn k end) e .answer)
   pub order : (k : ℕ) (e : Event) → In-order (turn k end) (step (turn k end) e .after)
   pub nobody-overtakes : (later : List Arrival) → Nobody-overtakes end later
+  -- 02, (vii): whatever events come later
+  pub waits : (later : List Arrival) → Waits (past (beginning number now) es said) later (answers end later)
   pub semaphores : Semaphores values es said end
   pub times : Times (beginning number now) es said end
   pub scheduling : (k : ℕ) (e : Event) → accepted (step (turn k end) e .answer) ≡ true → Scheduled (step (turn k end) e .answer) (step (turn k end) e .after)
@@ -96,10 +99,19 @@ demand-3 number now values ceilings es s rs ok t f =
       choosing = promises.choosing base-slots number now values ceilings es (omega arith) ok;
       order = promises.order base-slots number now values ceilings es (omega arith) ok;
       nobody-overtakes = promises.nobody-overtakes base-slots number now values ceilings es (omega arith) ok;
+      waits = promises.waits base-slots number now values ceilings es (omega arith) ok;
       semaphores = promises.semaphores base-slots number now values ceilings es (omega arith) ok;
       times = promises.times base-slots number now values ceilings es (omega arith) ok;
       scheduling = promises.scheduling base-slots number now values ceilings es (omega arith) ok;
     }
+
+-- 02, (vii), of the code: it goes on with whatever events come later, and its own answers to them are those of the law
+pub nobody-waits-longer : (number now : ℕ) (values ceilings : List ℕ) (es later : List Arrival) (s : Started) (rs more : List Answered)
+    → start-refusal base-slots number values ceilings ≡ 0 → Starts now values ceilings number s → Follows (s .machine) es rs → Follows (after (s .machine) rs) later more
+    → Waits (past (beginning number now) es (told rs)) later (told more)
+nobody-waits-longer number now values ceilings es later s rs more ok t f g =
+    subst (Waits (past (beginning number now) es (told rs)) later) (sym (follows later (after (s .machine) rs) more g .0))
+    (demand-3 number now values ceilings es s rs ok t f .waits later)
 
 -- 02, (ii), of the code: two machines that agree on a customer's ceiling and living count, and that both take the
 -- event, grant or deny a create of its child by the same caller's customer alike, whatever the others hold

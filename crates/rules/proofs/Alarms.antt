@@ -16,17 +16,17 @@ use Rattle.rules.proofs.Examples.{printed, call}
 use Rattle.rules.proofs.Edges.{Edge, edge, edge-of, three, given, found, answered, expected, created, not-created, runs, killed}
 
 -- a child with this a2; a high one, and a low one
-abbrev child : ℕ → Event
+abbrev pub child : ℕ → Event
 child a2 = call 0 1 0 a2 0
 
-abbrev high : Event
+abbrev pub high : Event
 high = child 1
 
-abbrev low : Event
+abbrev pub low : Event
 low = child 0
 
 -- whoever runs yields; waits for the pseudo-clock; waits for semaphore 0 and raises it; ends itself, or this id
-abbrev yields : Event
+abbrev pub yields : Event
 yields = call 0 10 0 0 0
 
 abbrev sleeps : Event
@@ -38,14 +38,14 @@ waits = call 0 3 0 0 0
 abbrev raises : Event
 raises = call 0 4 0 0 0
 
-abbrev ends : ℕ → Event
+abbrev pub ends : ℕ → Event
 ends n = call 0 2 n 0 0
 
 -- line 1, and line 2
 abbrev slice : Event
 slice = Interrupt 0 1 0 0
 
-abbrev tick : Event
+abbrev pub tick : Event
 tick = Interrupt 0 2 0 0
 
 -- the one in the slot carries on, these having been woken; the machine waits, these having ended

@@ -22,3 +22,5 @@ pub mod Status
 pub mod Turns
 pub mod Arrivals
 pub mod Named
+-- How long one waits in a ready line, 02, (vii):
+pub mod Waits

@@ -13,6 +13,8 @@ const USAGE: &str = "usage: generate SEED N           a log of N events, or as m
        generate --stream SEED N [PROCESSORS]
                                  a recorded stream of N events, of any length, that never ends;
                                  PROCESSORS is 1 to 8, chosen by the seed when it isn't given
+       generate --flood SEED N [PROCESSORS]
+                                 the same, in which alarms arise under a flood of low ones
        generate --many A..B [N]  the logs of seeds A to B, both included, each after its length in
                                  4 bytes, least significant first; those of odd seeds are damaged
        generate --count A..B [N] how often what came up in these logs
@@ -37,8 +39,10 @@ fn write(arguments: &[&str], out: &mut impl Write) -> Done {
     match *arguments {
         ["--damage", seed, n] => out.write_all(&damage::log(number(seed)?, events(n)?))?,
         ["--stream", seed, n] => stream(Generator::stream(number(seed)?), number(n)?, out)?,
-        ["--stream", seed, n, many] => {
-            let generator = Generator::stream(number(seed)?).on_processors(processors(many)?);
+        ["--flood", seed, n] => stream(Generator::flood(number(seed)?), number(n)?, out)?,
+        [kind @ ("--stream" | "--flood"), seed, n, many] => {
+            let fresh = if kind == "--flood" { Generator::flood } else { Generator::stream };
+            let generator = fresh(number(seed)?).on_processors(processors(many)?);
             stream(generator, number(n)?, out)?;
         }
         ["--many", seeds] => many(range(seeds)?, EVENTS, out)?,

@@ -58,21 +58,9 @@ fn stream(out: &mut impl Write) -> Done {
 
 fn many(out: &mut impl Write) -> Done {
     let mut input = io::stdin().lock();
-    let (mut head, mut bytes) = (Vec::new(), Vec::new());
-    loop {
-        head.clear();
-        input.by_ref().take(4).read_to_end(&mut head)?;
-        let length = match head[..] {
-            [] => return Ok(()),
-            [a, b, c, d] => u32::from_le_bytes([a, b, c, d]),
-            _ => return Err("the length before a log is cut short".into()),
-        };
-        bytes.clear();
-        let got = input.by_ref().take(length.into()).read_to_end(&mut bytes)?;
-        if got < length as usize {
-            return Err(format!("a log of {length} bytes is cut short after {got}").into());
-        }
+    while let Some(bytes) = log::next_of_many(&mut input)? {
         log::run(log::open(&bytes), out)?;
         writeln!(out, "--")?;
     }
+    Ok(())
 }

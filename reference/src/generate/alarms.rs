@@ -79,6 +79,27 @@ impl Generator {
         Some(topic)
     }
 
+    /// Low ones that do not wait: they take turns, and create more of their kind, also where there is no
+    /// room. The alarms among them wait for a device or the clock, and come one by one or many at a tick.
+    pub(super) fn in_a_flood(&mut self) -> Kind {
+        let high = self.running().is_some_and(|slot| self.desk.process(slot).is_high());
+        match (high, self.rng.below(16)) {
+            (true, 0..6) => self.kernel(-5, Generator::io_device),
+            (true, 6..10) => WAITS(self),
+            (true, 10..12) => self.yields(),
+            (false, 0..6) => self.slice_end(),
+            (false, 6..9) => self.yields(),
+            (false, 9..12) => self.low_newborn(),
+            (_, 12..15) => self.device(),
+            _ => self.tick(),
+        }
+    }
+
+    fn low_newborn(&mut self) -> Kind {
+        let (a1, named, priority) = (self.few(), self.customer(), self.low_priority());
+        self.call_with(Mode::Kernel, -1, a1, named * 256 + priority)
+    }
+
     /// The processors that run somebody: none of the others has a part in it.
     pub(super) fn in_the_stand(&self) -> Vec<u8> {
         let runs = |&number: &u8| self.desk.running_at(number).is_some();
