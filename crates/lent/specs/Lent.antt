@@ -1,6 +1,6 @@
 -- "In its last form, after the plain one, the desk lends the swap table, one row a frame, to be read and changed where
--- it lies; a lent
--- table not sixteen rows long or at odds with the page tables is refused with 12, untouched, after 9 and before 11."
+-- it lies; a lent table not sixteen rows long or at odds with the page tables is refused with 12, untouched, after 9
+-- and before 11."
 use mathlib.Core.Bool.{Bool, true, false, not, _&&_}
 use mathlib.Core.Path.{_≡_}
 use mathlib.Core.List.{List, [], _∷_}

@@ -1,6 +1,5 @@
 // The pager in its last form: "the desk lends the swap table, one row a frame, to be read and changed where it lies".
-// What it keeps
-// of its own are the page tables, the hand and the open transfer. Public are `fresh` and `event`.
+// What it keeps of its own are the page tables, the hand and the open transfer. Public are `fresh` and `event`.
 use odds::rows_and_tables_agree;
 use pages::AT_ODDS;
 use pages::Answer;

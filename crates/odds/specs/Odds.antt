@@ -1,6 +1,5 @@
 -- "a lent table not sixteen rows long or at odds with the page tables": when sixteen rows agree with the page tables
--- and the open
--- transfer. It is what the rule of a pager says of its rows (proofs/Agrees), as a test that computes.
+-- and the open transfer. It is what the rule of a pager says of its rows (proofs/Agrees), as a test that computes.
 use mathlib.Core.Bool.{Bool, true, _&&_, _||_}
 use mathlib.Core.List.{List, [], _∷_}
 use Prim.Native.Nat.{ℕ, suc, _-_}

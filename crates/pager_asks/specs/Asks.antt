@@ -1,7 +1,6 @@
 -- What a line of the pager's text asks: `refill U PAGE`, `fault U PAGE load|store|mod`, `report ok|failed`, `end U`
--- (numbers decimal or
--- 0x), and for the lent table `rows N` and `row FRAME OWNER ENTRY`. An empty line asks nothing. A bad line tells its
--- first bad word.
+-- (numbers decimal or 0x), and for the lent table `rows N` and `row FRAME OWNER ENTRY`. An empty line asks nothing. A
+-- bad line tells its first bad word.
 use mathlib.Core.Bool.{Bool, true, false}
 use mathlib.Core.List.{List, [], _∷_}
 use Prim.Native.Nat.{ℕ, _-_, _^_, _≤_}

@@ -30,8 +30,7 @@ frame-in zero = none
 frame-in (suc f) = f
 
 -- "U, ENTRY and FRAME are those of the page in question (for write the evicted one's owner and entry; for entry the
--- frame is absent
--- where the page is)"; "FRAMES is the mask of the frames freed, .. 0 where none"
+-- frame is absent where the page is)"; "FRAMES is the mask of the frames freed, .. 0 where none"
 abbrev pub seen-of : Word → Seen
 seen-of word.None = record { u = none; entry = none; frame = none; frames = 0 }
 seen-of (word.Entry u e v) = record { u = u; entry = e; frame = frame-in v; frames = 0 }

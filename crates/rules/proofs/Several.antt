@@ -82,8 +82,7 @@ edges =
     -- a child on processor 1 kills its parent on processor 0: its own processor is not named
     ∷ edge 2 (both-run ++ on 1 (call 40 2 1 0 0) ∷ []) (ends Halt Silent 3 1 ∷ [])
     -- "schedule": the idle processor does not choose in that answer, even if someone is ready. Id 1 kills id 2, which
-    -- ran on processor 1; id 3 is ready
-    -- and runs on processor 0; then a tick on processor 1 runs id 1
+    -- ran on processor 1; id 3 is ready and runs on processor 0; then a tick on processor 1 runs id 1
     ∷ edge 2 (both-run ++ on 0 (call 35 1 0 0 0) ∷ on 0 (call 40 2 2 0 0) ∷ on 1 (Interrupt 50 2 0 0) ∷ [])
     (ends (Run 2) (Says (pos 0)) 2 2 ∷ does (Run 0) ∷ [])
     -- two ends elsewhere: id 2 runs on processor 1 and its child, id 3, on processor 2

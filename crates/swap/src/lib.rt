@@ -1,8 +1,6 @@
 // The swap table as the desk lends it: "one row a frame, to be read and changed where it lies". Functions over such a
-// slice are few
-// and thin: each reads or writes rows where they lie, and leaves the work to a covered function over a sheet, which
-// holds
-// sixteen rows by value.
+// slice are few and thin: each reads or writes rows where they lie, and leaves the work to a covered function over a
+// sheet, which holds sixteen rows by value.
 use pages::FRAMES;
 use pages::Found;
 use pages::Row;

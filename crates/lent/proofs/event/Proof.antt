@@ -1,9 +1,7 @@
 -- `lent::event` meets its contract: the MIR is walked by hand, with no branch and no loop in it.
 -- The slice's borrow is opened and its rows are lent as a `&` for a lifetime ν of the first call; when ν is over they
--- are back, and
--- the borrow is closed as it was. A covered function decides, by value. Then the borrow is given up for good, to
--- `write_rows` at its
--- own lifetime, share and ghost name.
+-- are back, and the borrow is closed as it was. A covered function decides, by value. Then the borrow is given up for
+-- good, to `write_rows` at its own lifetime, share and ghost name.
 use mathlib.Core.Path.{_≡_, refl, sym, _∙_, ap, subst}
 use Prim.Native.Nat.{ℕ, _<_, _^_}
 use mathlib.Core.List.{[], _∷_, List}
