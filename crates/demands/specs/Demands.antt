@@ -1,39 +1,41 @@
 -- DEMAND 3 OF THE CODE: whoever starts the desk and hands it any events, one after the other, refused ones included,
 -- gets answers and a machine of which every law of the ledger holds. Each field is a law of crates/ledger, said of what
 -- the code answered and of the machine it came to.
-use mathlib.Core.Path.{_≡_, sym, ap, _∙_, subst}
+use mathlib.Core.Path.{_≡_, refl, sym, ap, _∙_, subst}
+use mathlib.Core.Logic.{_≢_}
 use mathlib.Core.Bool.{true}
-use mathlib.Core.List.{List, [], _∷_}
+use mathlib.Core.List.{List, [], _∷_, map}
 use Prim.Native.Nat.{ℕ, _≤_, _<_}
 use native.Mathlib.Omega.{arith}
 use lib.ListN.{length, getD}
-use borrow.Author.Tests.{eq-eqb}
-use Rattle.rules.specs.declared.Event.{Event}
+use borrow.Author.Tests.{eq-eqb, lt-ltb}
 use Rattle.rules.specs.declared.Arrival.{Arrival}
 use Rattle.rules.specs.declared.Answer.{Answer}
-use Rattle.rules.specs.Numbers.{base-slots}
+use Rattle.rules.specs.Words.{All}
+use Rattle.rules.specs.Numbers.{base-slots, top, over}
 use Rattle.rules.specs.Machine as book
-use Rattle.rules.specs.Machine.{Process, child-of, charge, processors, turn}
-use Rattle.rules.specs.Answers.{Outcome}
+use Rattle.rules.specs.Machine.{Process, living, living-of, child-of, processors, turn}
+use Rattle.rules.specs.Answers.{Outcome, plain, refusing}
 use Rattle.rules.specs.Starts.{start-refusal, started}
-use Rattle.rules.specs.Rules.{step, clock, start, run, answers}
+use Rattle.rules.specs.Rules.{step, arrive, start, run, answers}
 use Rattle.rules.specs.Tables.{Rests}
+use Rattle.rules.proofs.Cases.{and-intro}
 use Rattle.rules.proofs.Tables.{start-passed}
 use Rattle.rules.proofs.Arrivals.{arrives-in}
-use Rattle.ledger.specs.History.{beginning, turned, past, accepted, accepted-gap, tally-past}
-use Rattle.ledger.specs.Refusals.{Refusals}
-use Rattle.ledger.specs.Ids.{ids-issued, Ids, Newborn-told}
-use Rattle.ledger.specs.Customers.{create-call, Taken, Agree, Alike, Customers, childs-customer, Decided}
+use Rattle.ledger.specs.History.{beginning, turned, past, accepted}
+use Rattle.ledger.specs.Ids.{ids-issued, Ids}
+use Rattle.ledger.specs.Customers.{create-call, granted, Taken, Agree, Alike, Customers, childs-customer}
 use Rattle.ledger.specs.Places.{Places}
-use Rattle.ledger.specs.Kills.{Kills, Ancestors-alive}
-use Rattle.ledger.specs.Hands.{Other-runs, Hands-off}
-use Rattle.ledger.specs.Moves.{move, Moved}
-use Rattle.ledger.specs.Choices.{Choosing, Queued}
-use Rattle.ledger.specs.Order.{In-order, Nobody-overtakes}
+use Rattle.ledger.specs.Told.{Told-of}
+use Rattle.ledger.specs.Choices.{Queued}
+use Rattle.ledger.specs.Kills.{Ancestors-alive}
+use Rattle.ledger.specs.Order.{trail, Nobody-overtakes}
 use Rattle.ledger.specs.Waits.{Waits}
 use Rattle.ledger.specs.Semaphores.{Semaphores}
 use Rattle.ledger.specs.Times.{Times}
-use Rattle.ledger.specs.Scheduling.{Scheduled}
+use Rattle.ledger.specs.Ranges.{word, Well-formed, Ranged, Fits}
+use Rattle.ledger.specs.Starts.{Refused-start}
+use Rattle.ledger.specs.Next.{Next}
 use Rattle.ledger.proofs.Promises as promises
 use Rattle.desk.specs.declared.Machine.{Machine}
 use Rattle.desk.specs.declared.Started.{Started}
@@ -55,29 +57,24 @@ ended number now values ceilings es ok =
     some-customer [] h = absurd (omega (arith, h))
     some-customer (c ∷ cs) h = omega arith
 
--- the laws, of what was said and of the machine at the end; those of an event, of the machine turned to its processor
+-- the laws, of what was said and of the machine at the end; those of one event, of whatever event comes next (`next`,
+-- which `next-event` says of the code's own outcome)
 pub record Lawful (number now : ℕ) (values ceilings : List ℕ) (es : List Arrival) (said : List Answer) (end : book.Machine) : Type 0 where
   pub tables : Rests base-slots (length values) (length ceilings) number end
-  pub refusals : (x : Arrival) → Refusals (tally-past accepted-gap (beginning number now) es said) (past (beginning number now) es said) end x
   pub ids : Ids (beginning number now) es said end
   pub customers : Customers ceilings (beginning number now) es said end
-  pub granted-exactly : (k reading a1 a2 a3 : ℕ) → let a = step (turn k end) (create-call reading a1 a2 a3) .answer in
-      accepted a ≡ true → Decided ceilings (length (ids-issued (beginning number now) es said)) (childs-customer (turned k (past (beginning number now) es said)) a2) (turn k end) a
-  pub newborn : (k : ℕ) (e : Event) → Newborn-told (step (turn k end) e .answer .newborn) (step (turn k end) e .answer .result) (turn k end)
+  pub room : (c : ℕ) → living-of c end < getD ceilings c 0 → length (living end) < base-slots
   pub places : Places (past (beginning number now) es said) end
-  pub kills : (k : ℕ) (e : Event) → accepted (step (turn k end) e .answer) ≡ true → Kills (turned k (past (beginning number now) es said) .births) (turn k end) e
-  pub ancestors : Ancestors-alive (past (beginning number now) es said .births) end
-  pub hands-off : (k : ℕ) (e : Event) → Other-runs (turned k (past (beginning number now) es said)) → Hands-off (turned k (past (beginning number now) es said)) e (step (turn k end) e .answer)
-  pub moves : (k : ℕ) (e : Event) → accepted (step (turn k end) e .answer) ≡ true → Moved (move e (turn k end)) (charge (clock e) (turn k end)) (step (turn k end) e)
+  pub told-births : All (Told-of (past (beginning number now) es said .births)) (living end)
   pub queues : Queued (past (beginning number now) es said .queues) end
-  pub choosing : (k : ℕ) (e : Event) → accepted (step (turn k end) e .answer) ≡ true → Choosing (turned k (past (beginning number now) es said)) e (step (turn k end) e .answer)
-  pub order : (k : ℕ) (e : Event) → In-order (turn k end) (step (turn k end) e .after)
-  pub nobody-overtakes : (later : List Arrival) → Nobody-overtakes end later
+  pub ancestors : Ancestors-alive (past (beginning number now) es said .births) end
+  pub nobody-overtakes : (later : List Arrival) → Nobody-overtakes end (trail end later)
   -- 02, (vii): whatever events come later
   pub waits : (later : List Arrival) → Waits (past (beginning number now) es said) later (answers end later)
   pub semaphores : Semaphores values es said end
   pub times : Times (beginning number now) es said end
-  pub scheduling : (k : ℕ) (e : Event) → accepted (step (turn k end) e .answer) ≡ true → Scheduled (step (turn k end) e .answer) (step (turn k end) e .after)
+  pub ranges : now < word → All (λ x. Well-formed (x .event)) es → Ranged end × All (Fits base-slots number) said
+  pub next : (x : Arrival) → Next values ceilings (beginning number now) es said end x (arrive end x)
 
 -- any start that is accepted, any events at any processors, any results that meet `event`'s promise one after the other
 pub demand-3 : (number now : ℕ) (values ceilings : List ℕ) (es : List Arrival) (s : Started) (rs : List Answered)
@@ -85,25 +82,78 @@ pub demand-3 : (number now : ℕ) (values ceilings : List ℕ) (es : List Arriva
 demand-3 number now values ceilings es s rs ok t f =
     of-code (Lawful number now values ceilings es) now values ceilings number es s rs t f record {
       tables = ended number now values ceilings es ok;
-      refusals = promises.refusals base-slots number now values ceilings es (omega arith) ok;
       ids = promises.ids base-slots number now values ceilings es (omega arith) ok;
       customers = promises.customers base-slots number now values ceilings es (omega arith) ok;
-      granted-exactly = promises.granted-exactly base-slots number now values ceilings es (omega arith) ok;
-      newborn = promises.newborn base-slots number now values ceilings es (omega arith) ok;
+      room = promises.room base-slots number now values ceilings es (omega arith) ok;
       places = promises.places base-slots number now values ceilings es (omega arith) ok;
-      kills = promises.kills base-slots number now values ceilings es (omega arith) ok;
-      ancestors = promises.ancestors base-slots number now values ceilings es (omega arith) ok;
-      hands-off = promises.hands-off base-slots number now values ceilings es (omega arith) ok;
-      moves = promises.moves base-slots number now values ceilings es (omega arith) ok;
+      told-births = promises.told-births base-slots number now values ceilings es (omega arith) ok;
       queues = promises.queues base-slots number now values ceilings es (omega arith) ok;
-      choosing = promises.choosing base-slots number now values ceilings es (omega arith) ok;
-      order = promises.order base-slots number now values ceilings es (omega arith) ok;
+      ancestors = promises.ancestors base-slots number now values ceilings es (omega arith) ok;
       nobody-overtakes = promises.nobody-overtakes base-slots number now values ceilings es (omega arith) ok;
       waits = promises.waits base-slots number now values ceilings es (omega arith) ok;
       semaphores = promises.semaphores base-slots number now values ceilings es (omega arith) ok;
       times = promises.times base-slots number now values ceilings es (omega arith) ok;
-      scheduling = promises.scheduling base-slots number now values ceilings es (omega arith) ok;
+      ranges = promises.ranges base-slots number now values ceilings es (omega arith) ok;
+      next = promises.next base-slots number now values ceilings es (omega arith) ok;
     }
+
+-- what the code came to and answered, as an outcome
+abbrev pub outcome : Answered → Outcome
+outcome r = record { after = view (r .machine); answer = r .answer }
+
+-- EVERY LAW OF ONE EVENT, OF THE CODE: after any events, whatever event x comes next at whatever processor, of the
+-- answer that the code gives to it and of the machine that it hands back
+pub next-event : (number now : ℕ) (values ceilings : List ℕ) (es : List Arrival) (x : Arrival) (s : Started) (rs : List Answered) (r : Answered)
+    → start-refusal base-slots number values ceilings ≡ 0 → Starts now values ceilings number s → Follows (s .machine) es rs → Answers (x .processor) (x .event) (after (s .machine) rs) r
+    → Next values ceilings (beginning number now) es (told rs) (view (after (s .machine) rs)) x (outcome r)
+next-event number now values ceilings es x s rs r ok t f a =
+    subst (Next values ceilings (beginning number now) es (told rs) (view (after (s .machine) rs)) x) (a .seen)
+    (demand-3 number now values ceilings es s rs ok t f .next x)
+
+-- the machines that the code hands back one after the other
+abbrev pub machines : List Answered → List book.Machine
+machines rs = map (λ r. view (r .machine)) rs
+
+trails : (es : List Arrival) (m : Machine) (rs : List Answered) → Follows m es rs → machines rs ≡ trail (view m) es
+trails [] m [] f = refl
+trails [] m (r ∷ rs) f = absurd f
+trails (e ∷ es) m [] f = absurd f
+trails (e ∷ es) m (r ∷ rs) f =
+    let next : view (r .machine) ≡ arrive (view m) e .after = sym (ap (λ (x : Outcome). x .after) (f .0 .seen)) in
+    ap (λ (ns : List book.Machine). view (r .machine) ∷ ns) (trails es (r .machine) rs (f .1)) ∙ ap (λ (k : book.Machine). k ∷ trail k es) next
+
+-- FIRST COME, FIRST SERVED, OF THE CODE: as long as x stands in a line, in each machine that the code hands back,
+-- nobody who was behind it is before it
+pub nobody-overtakes-in-code : (number now : ℕ) (values ceilings : List ℕ) (es later : List Arrival) (s : Started) (rs more : List Answered)
+    → start-refusal base-slots number values ceilings ≡ 0 → Starts now values ceilings number s → Follows (s .machine) es rs → Follows (after (s .machine) rs) later more
+    → Nobody-overtakes (view (after (s .machine) rs)) (machines more)
+nobody-overtakes-in-code number now values ceilings es later s rs more ok t f g =
+    subst (Nobody-overtakes (view (after (s .machine) rs))) (sym (trails later (after (s .machine) rs) more g))
+    (demand-3 number now values ceilings es s rs ok t f .nobody-overtakes later)
+
+-- 02, (ii), of the code: whatever the other customers did, a create for a customer below its ceiling is granted while
+-- ids last
+pub below-ceiling-granted : (number now k reading a1 a2 a3 : ℕ) (values ceilings : List ℕ) (es : List Arrival) (s : Started) (rs : List Answered) (r : Answered)
+    → start-refusal base-slots number values ceilings ≡ 0 → Starts now values ceilings number s → Follows (s .machine) es rs → Answers k (create-call reading a1 a2 a3) (after (s .machine) rs) r
+    → let c = childs-customer (turned k (past (beginning number now) es (told rs))) a2 in
+    accepted (r .answer) ≡ true → living-of c (turn k (view (after (s .machine) rs))) < getD ceilings c 0 → length (ids-issued (beginning number now) es (told rs)) < top → granted (r .answer) ≡ true
+below-ceiling-granted number now k reading a1 a2 a3 values ceilings es s rs r ok t f a taken below last =
+    let x : Arrival = record { processor = k; event = create-call reading a1 a2 a3 } in
+    let c = childs-customer (turned k (past (beginning number now) es (told rs))) a2 in
+    let issued = length (ids-issued (beginning number now) es (told rs)) in
+    next-event number now values ceilings es x s rs r ok t f a .done taken .granted-exactly reading a1 a2 a3 refl .exactly
+    ∙ and-intro _ _ (lt-ltb (living-of c (turn k (view (after (s .machine) rs)))) (getD ceilings c 0) below) (lt-ltb issued top last)
+
+-- REFUSED STARTS, of the code: the number, the machine beside it, an answer of 1 to every event, and the machine
+-- unchanged
+pub refused-start : (number now : ℕ) (values ceilings : List ℕ) (es : List Arrival) (s : Started) (rs : List Answered)
+    → start-refusal base-slots number values ceilings ≢ 0 → Starts now values ceilings number s → Follows (s .machine) es rs
+    → (s .refusal ≡ start-refusal base-slots number values ceilings) × Refused-start base-slots (length values) (length ceilings) (view (s .machine)) es
+    × (told rs ≡ map (λ e. refusing over plain) es) × (view (after (s .machine) rs) ≡ view (s .machine))
+refused-start number now values ceilings es s rs bad t f =
+    let h = subst (λ (m : book.Machine). Refused-start base-slots (length values) (length ceilings) m es) (sym (t .seen)) (promises.refused-start base-slots number now values ceilings es bad) in
+    let g = follows es (s .machine) rs f in
+    (t .number, h, g .0 ∙ h .refuses, g .1 ∙ h .unchanged)
 
 -- 02, (vii), of the code: it goes on with whatever events come later, and its own answers to them are those of the law
 pub nobody-waits-longer : (number now : ℕ) (values ceilings : List ℕ) (es later : List Arrival) (s : Started) (rs more : List Answered)

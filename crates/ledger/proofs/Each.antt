@@ -14,18 +14,12 @@ use Rattle.rules.specs.Machine.{Process, Seat, Machine, seated-in, living, is-h
 use Rattle.rules.proofs.Living.{process, all-living, all-running, all-elsewhere, all-ready, all-waiting, seats-killed}
 use Rattle.rules.specs.Answers.{Outcome}
 use Rattle.rules.specs.Rules.{denied, value, clock}
-use Rattle.ledger.specs.History.{a2-of}
+use Rattle.ledger.specs.History.{a2-of, a3-of}
 use Rattle.ledger.specs.Choices.{Lists, lists-of, joining, chosen}
 use Rattle.ledger.specs.Kills.{passed-up, target}
 use Rattle.ledger.specs.Moves.{Move, none, steps-back, joins, first-wakes, all-wake, is-born, ends, call-moves, carried-out, move, moved, others, Moved}
 use Rattle.ledger.proofs.Lines.{line-all}
 use Rattle.ledger.proofs.Chosen.{still-waiting, chosen-each}
-
--- the support handle that an event carries
-abbrev pub a3-of : Event → ℕ
-a3-of (Call now mode a0 a1 a2 a3) = a3
-a3-of (Interrupt now n x y) = 0
-a3-of (Exception now code) = 0
 
 -- ── A birth is one with the words of the event ──
 

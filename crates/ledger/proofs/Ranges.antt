@@ -39,12 +39,12 @@ use Rattle.rules.proofs.Walk.{charge-single}
 use Rattle.rules.proofs.Tables.{keeps, tables-turned, arrives, sound, short}
 use Rattle.rules.proofs.Turns.{all-get, all-set, turn-cases, same-taken}
 use Rattle.rules.proofs.Arrivals.{arrive-cases}
-use Rattle.ledger.specs.History.{a2-of}
+use Rattle.ledger.specs.History.{a2-of, a3-of}
 use Rattle.ledger.specs.Ids.{Newborn-told}
 use Rattle.ledger.specs.Moves.{Move, none, steps-back, joins, first-wakes, all-wake, is-born, ends, move, others, left, woken, ended, Moved}
 use Rattle.ledger.specs.Ranges.{word, byte, long, Well-formed, Ranged, Fits-result, Below, Fits}
 use Rattle.ledger.proofs.Lines.{line-few}
-use Rattle.ledger.proofs.Each.{a3-of, moved-each}
+use Rattle.ledger.proofs.Each.{moved-each}
 use Rattle.ledger.proofs.Verdicts.{by-verdict}
 use Rattle.ledger.proofs.Births.{answered}
 use Rattle.ledger.proofs.Newborns.{newborn-told}
@@ -62,7 +62,7 @@ bit-within (suc k) b a h = go (eqb (b % 2) 1) refl (bit-within k (b / 2))
     go true e ih = omega arith
     go false e ih = let z : b % 2 ≡ 1 → ⊥ = eqb-false (b % 2) 1 e in let p = pow-suc 2 k in omega (arith, ih (omega arith) (omega arith))
 
-bit-most : (k b : ℕ) → lowest-bit k b ≤ k
+pub bit-most : (k b : ℕ) → lowest-bit k b ≤ k
 bit-most zero b = omega arith
 bit-most (suc k) b = go (eqb (b % 2) 1) (bit-most k (b / 2))
   where
@@ -84,11 +84,11 @@ one-within n i a b c = omega arith
 
 -- a line that is not refused, 3 to 7, serves one of the 48 sub-devices
 module _ (now n x y : ℕ) (ok : bad-line (Interrupt now n x y) ≡ false) (three : 3 ≤ n) (fx : x < byte) (fy : y < byte) where
-  seven : n ≤ 7
+  pub seven : n ≤ 7
   unfolding bad-line
   seven = ltb-false 7 n (or-right (ltb n 1) (ltb 7 n) (or-left (ltb n 1 || ltb 7 n) (leb 3 n && eqb x 0 && (ltb n 7 || eqb y 0)) ok))
 
-  bytes : eqb x 0 && (ltb n 7 || eqb y 0) ≡ false
+  pub bytes : eqb x 0 && (ltb n 7 || eqb y 0) ≡ false
   unfolding bad-line
   bytes = rw (le-leb 3 n three) at (or-right (ltb n 1 || ltb 7 n) (leb 3 n && eqb x 0 && (ltb n 7 || eqb y 0)) ok)
 
@@ -96,7 +96,7 @@ module _ (now n x y : ℕ) (ok : bad-line (Interrupt now n x y) ≡ false) (thre
   bit b h z = bit-within 8 b (omega arith) h
 
   -- the first byte is not 0, or the line is 7 and the second is not
-  first-byte : (c : Bool) → eqb x 0 ≡ c → c && (ltb n 7 || eqb y 0) ≡ false → (8 ≤ lowest-bit 8 x → (7 ≤ n) × (lowest-bit 8 y < 8))
+  pub first-byte : (c : Bool) → eqb x 0 ≡ c → c && (ltb n 7 || eqb y 0) ≡ false → (8 ≤ lowest-bit 8 x → (7 ≤ n) × (lowest-bit 8 y < 8))
   first-byte true e k l = (ltb-false n 7 (or-left (ltb n 7) (eqb y 0) k), bit y fy (eqb-false y 0 (or-right (ltb n 7) (eqb y 0) k)))
   first-byte false e k l = let z = bit x fx (eqb-false x 0 e) in absurd (omega (arith, z, l))
 

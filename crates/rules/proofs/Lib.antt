@@ -2,6 +2,7 @@
 -- Worked examples, by computing:
 pub mod Examples
 pub mod Edges
+pub mod Numbered
 pub mod Several
 pub mod Alarms
 -- That every event keeps the tables' rule, and what it is proved by:
@@ -14,6 +15,7 @@ pub mod Living
 pub mod Walk
 pub mod Sound
 pub mod Kin
+pub mod Descent
 pub mod Places
 pub mod Lined
 pub mod Laws

@@ -26,6 +26,7 @@ use Rattle.rules.specs.Answers.{Outcome}
 use Rattle.rules.proofs.Sound.{or-left, or-right, below, eqb-swap, seated, settled, fresh-settled}
 use Rattle.rules.specs.Tables.{Allowed, Sound}
 use Rattle.rules.proofs.Kin.{Kin, stays-kin, fresh-kin}
+use Rattle.rules.proofs.Descent.{Descent, stays-descent, moved-descent, fresh-descent}
 use Rattle.rules.proofs.Places.{stays-placed}
 use Rattle.rules.proofs.Lined.{stays-lined}
 use Rattle.rules.proofs.Status.{stays-scheduled}
@@ -40,6 +41,9 @@ module _ (slots sems customers seats : ℕ) where
   pub kin : (m : Machine) → Tables slots sems customers seats m → Kin m
   kin m t = record { parents = t .parents; older = t .older }
 
+  pub descent : (m : Machine) → Tables slots sems customers seats m → Descent m
+  descent m t = record { rooted = t .rooted; inherited = t .inherited }
+
   -- every event keeps it
   pub keeps : (m : Machine) (e : Event) → Tables slots sems customers seats m → Tables slots sems customers seats (step m e .after)
   keeps m e t =
@@ -47,6 +51,7 @@ module _ (slots sems customers seats : ℕ) where
       let size = sized slots sems seats (m .ceilings) m e one (t .slots-there, t .sems-there, t .processors-there, refl) in
       let s = settled m e (sound m t, one, t .one-each) in
       let k = stays-kin m e one (sound m t) (kin m t) in
+      let d = stays-descent m e one (sound m t) (kin m t) (descent m t) in
       let l = stays-lined m e one (record { own-line = t .own-line; in-a-row = t .in-a-row }) in
       record {
         slots-there = size .0;
@@ -67,6 +72,8 @@ module _ (slots sems customers seats : ℕ) where
         limits = limited m e one (t .limits);
         parents = k .parents;
         older = k .older;
+        rooted = d .rooted;
+        inherited = d .inherited;
         status-fits = stays-scheduled m e one (record { scheduled = t .status-fits }) .scheduled;
       }
 
@@ -78,6 +85,7 @@ module _ (slots sems customers seats : ℕ) where
       go l =
           let s = sound-taken k m l (sound m t) in
           let f = kin-taken k m l (kin m t) in
+          let d = moved-descent m (taken k m) (same-taken k m l) (descent m t) in
           let one = single-taken k m (t .one-runs) (t .one-each) in
           record {
             slots-there = t .slots-there;
@@ -98,6 +106,8 @@ module _ (slots sems customers seats : ℕ) where
             limits = t .limits;
             parents = f .parents;
             older = f .older;
+            rooted = d .rooted;
+            inherited = d .inherited;
             status-fits = scheduled-taken (m .status) k m l (t .status-fits);
           }
 
@@ -142,6 +152,7 @@ unfolding fresh on-processors
 fresh-tables slots others now values ceilings may low =
     let s = fresh-settled slots others now values ceilings may in
     let k = fresh-kin slots others now values ceilings in
+    let d = fresh-descent slots others now values ceilings in
     record {
       slots-there = refl;
       sems-there = refl;
@@ -161,6 +172,8 @@ fresh-tables slots others now values ceilings may low =
       limits = (omega arith, omega arith, omega arith);
       parents = k .parents;
       older = k .older;
+      rooted = d .rooted;
+      inherited = d .inherited;
       status-fits = tt;
     }
 
