@@ -1,2 +1,2 @@
--- A law for callers.
-pub mod Counted
+-- Laws that no single function's proof owns.
+pub mod Told

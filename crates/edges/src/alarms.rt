@@ -1,8 +1,12 @@
 // Alarms first: who is high, who is chosen, and the count of four.
 
+use std::io;
+use std::io::Stdout;
+
 // "a2 mod 256 equal to 1 is high, all else low"
-fn priorities() {
+fn priorities(out: &mut Stdout) -> io::Result<()> {
     play::play(
+        out,
         b"# of priorities 0, 1, 2, 255, 256 and 257 the second and the last are high; a tick puts each in its own line
 start 1000
 ceilings 6 4
@@ -35,12 +39,13 @@ kernel 2100 -7
 kernel 2200 -7
 
 ",
-    );
+    )
 }
 
 // "when four high ones in a row were chosen while a low one was waiting, the first low one"
-fn four_in_a_row() {
+fn four_in_a_row(out: &mut Stdout) -> io::Result<()> {
     play::play(
+        out,
         b"# five high ones and a low one: the fifth choice is the low one
 start 1000
 kernel 1100 -1 0 1
@@ -68,12 +73,13 @@ kernel 1400 -10
 again 4
 
 ",
-    );
+    )
 }
 
 // "The count of four returns to nought .. at a choice made with the low line empty."
-fn low_line_empty() {
+fn low_line_empty(out: &mut Stdout) -> io::Result<()> {
     play::play(
+        out,
         b"# the low line is emptied and filled again: high ones that were chosen meanwhile are not counted
 start 1000
 kernel 1100 -1 0 1
@@ -113,12 +119,13 @@ kernel 1500 -2 3
 kernel 1600 -10
 
 ",
-    );
+    )
 }
 
 // A schedule that finds both lines empty chooses nobody: "A choice is an answer whose action is run."
-fn over_a_wait() {
+fn over_a_wait(out: &mut Stdout) -> io::Result<()> {
     play::play(
+        out,
         b"# four are counted, and stay so over a wait: of a low and a high one woken together the low one runs
 start 1000
 kernel 1100 -1 0 1
@@ -148,12 +155,13 @@ interrupt 1800 2 0 0
 kernel 1900 -10
 
 ",
-    );
+    )
 }
 
 // 'In 01 "the ready line" becomes the line of the process's own priority'
-fn own_lines() {
+fn own_lines(out: &mut Stdout) -> io::Result<()> {
     play::play(
+        out,
         b"# id 1 is low: where its slice ends it goes behind the low ones, and high ones run before them
 start 1000
 kernel 1100 -1 0 0
@@ -176,12 +184,13 @@ kernel 1600 -6
 kernel 1700 -10
 
 ",
-    );
+    )
 }
 
 // "a surviving caller .. goes to the end of its ready line with result 0, then schedule"
-fn killers() {
+fn killers(out: &mut Stdout) -> io::Result<()> {
     play::play(
+        out,
         b"# a high killer that survives goes behind the high ones, and runs before low ones until four are counted
 start 1000
 kernel 1100 -1 0 0
@@ -203,12 +212,13 @@ kernel 1300 -2 2
 kernel 1400 -7
 
 ",
-    );
+    )
 }
 
 // The lines and the count are the machine's, whatever the processor.
-fn one_count() {
+fn one_count(out: &mut Stdout) -> io::Result<()> {
     play::play(
+        out,
         b"# four high ones chosen on three processors: the fifth choice is the low one, wherever it is made
 start 1000
 processors 3
@@ -233,15 +243,15 @@ on 0
 kernel 1700 -10
 
 ",
-    );
+    )
 }
 
-pub(crate) fn all() {
-    priorities();
-    four_in_a_row();
-    low_line_empty();
-    over_a_wait();
-    own_lines();
-    killers();
-    one_count();
+pub(crate) fn all(out: &mut Stdout) -> io::Result<()> {
+    priorities(out)?;
+    four_in_a_row(out)?;
+    low_line_empty(out)?;
+    over_a_wait(out)?;
+    own_lines(out)?;
+    killers(out)?;
+    one_count(out)
 }

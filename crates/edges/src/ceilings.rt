@@ -1,8 +1,12 @@
 // "A ceiling for each customer": who is granted a create, who is denied it, and what a kill gives back.
 
+use std::io;
+use std::io::Stdout;
+
 // "the child's customer is at its ceiling"
-fn own_ceilings() {
+fn own_ceilings(out: &mut Stdout) -> io::Result<()> {
     play::play(
+        out,
         b"# each customer to its own ceiling, whatever the others hold; a denied create takes no id
 start 1000
 ceilings 2 2 1
@@ -23,12 +27,13 @@ kernel 1200 -1 0 256
 kernel 1300 -6
 
 ",
-    );
+    )
 }
 
 // "ceilings may sum to 64": the table is full where each customer is at its ceiling
-fn all_places() {
+fn all_places(out: &mut Stdout) -> io::Result<()> {
     play::play(
+        out,
         b"# all 64 places, among nine customers, each to its last place: the sixty-fourth is granted, and nobody more
 start 1000
 ceilings 8 7 7 7 7 7 7 7 7
@@ -61,12 +66,13 @@ kernel 2700 -1 0 1792
 kernel 2800 -1 0 2048
 
 ",
-    );
+    )
 }
 
 // "when customer 0 creates, a2 / 256 names the child's"; "the named customer is above 8"
-fn named() {
+fn named(out: &mut Stdout) -> io::Result<()> {
     play::play(
+        out,
         b"# a named customer above 8 is denied, by all 24 bits of a2 / 256
 start 1000
 ceilings 4 2 2 2 2 2 2 2 2
@@ -80,12 +86,13 @@ kernel 1700 -1 0 4294967295 ; 16777215
 kernel 1800 -1 0 2303 ; 8, priority 255
 
 ",
-    );
+    )
 }
 
 // "A child has its parent's customer"
-fn inherited() {
+fn inherited(out: &mut Stdout) -> io::Result<()> {
     play::play(
+        out,
         b"# what another than customer 0 names is not looked at: the child is its parent's customer
 start 1000
 ceilings 1 4 2
@@ -114,12 +121,13 @@ kernel 1800 -10
 kernel 1900 -1
 
 ",
-    );
+    )
 }
 
 // The living of a customer are all that have not ended.
-fn living() {
+fn living(out: &mut Stdout) -> io::Result<()> {
     play::play(
+        out,
         b"# the running, the ready and the waiting count; a killed waiter does not
 start 1000
 ceilings 1 4
@@ -147,12 +155,13 @@ exception 1400 0
 kernel 1500 -1 0 256
 
 ",
-    );
+    )
 }
 
 // A place that a kill gives back is that of the dead one's customer.
-fn given_back() {
+fn given_back(out: &mut Stdout) -> io::Result<()> {
     play::play(
+        out,
         b"# a kill gives a place back, to the customer of the dead alone
 start 1000
 ceilings 1 2 2
@@ -170,12 +179,13 @@ kernel 1900 -1 0 256 ; and for customer 1: that slot again, a new id
 kernel 2000 -1 0 256
 
 ",
-    );
+    )
 }
 
 // "The named process and all descendants end."
-fn family() {
+fn family(out: &mut Stdout) -> io::Result<()> {
     play::play(
+        out,
         b"# a killed family gives back the places of each customer in it
 start 1000
 ceilings 2 2 1
@@ -194,15 +204,15 @@ kernel 2200 -1 0 256
 kernel 2300 -1 0 256
 
 ",
-    );
+    )
 }
 
-pub(crate) fn all() {
-    own_ceilings();
-    all_places();
-    named();
-    inherited();
-    living();
-    given_back();
-    family();
+pub(crate) fn all(out: &mut Stdout) -> io::Result<()> {
+    own_ceilings(out)?;
+    all_places(out)?;
+    named(out)?;
+    inherited(out)?;
+    living(out)?;
+    given_back(out)?;
+    family(out)
 }

@@ -1,8 +1,12 @@
 // The log's refusals, at each place where they can stand, and their order within a field.
 
+use std::io;
+use std::io::Stdout;
+
 // 20, 21 and 23 at the first field
-fn first_cut_or_unknown() {
+fn first_cut_or_unknown(out: &mut Stdout) -> io::Result<()> {
     play::play(
+        out,
         b"# an empty log
 
 # a start and nothing more: no lines
@@ -37,12 +41,13 @@ start 1000
 byte 0 255
 
 ",
-    );
+    )
 }
 
 // 22, 23 and 24 at the first field
-fn first_refused() {
+fn first_refused(out: &mut Stdout) -> io::Result<()> {
     play::play(
+        out,
         b"# 22 at the first field: length 150
 start 1000
 byte 1 150
@@ -76,12 +81,13 @@ start 1000 31 2147483647
 kernel 1100 -6
 
 ",
-    );
+    )
 }
 
 // "two more bytes each, after the values"; "the start ends with the number of processors (length 151 ..)"
-fn first_layout() {
+fn first_layout(out: &mut Stdout) -> io::Result<()> {
     play::play(
+        out,
         b"# 22 at the first field: a start of length 132, without ceilings
 start 1000
 byte 1 132
@@ -112,12 +118,13 @@ start 1000
 drop 1
 
 ",
-    );
+    )
 }
 
 // "ceiling 0 is at least 1"; "they may not sum above 20", with (v) "may sum to 64": the plain sum
-fn first_ceilings() {
+fn first_ceilings(out: &mut Stdout) -> io::Result<()> {
     play::play(
+        out,
         b"# 27: ceiling 0 is 0
 start 1000
 ceilings 0 20
@@ -165,12 +172,13 @@ ceilings 1 0 0 0 0 0 0 0 63
 kernel 1100 -6
 
 ",
-    );
+    )
 }
 
 // "0 or above 8 is refused with 29"
-fn first_processors() {
+fn first_processors(out: &mut Stdout) -> io::Result<()> {
     play::play(
+        out,
         b"# 29: no processor
 start 1000
 processors 0
@@ -191,12 +199,13 @@ processors 8
 kernel 1100 -6
 
 ",
-    );
+    )
 }
 
 // 20 at a later field
-fn later_cut() {
+fn later_cut(out: &mut Stdout) -> io::Result<()> {
     play::play(
+        out,
         b"# 20 at the last field: one byte of its head
 start 1000
 kernel 1100 -6
@@ -231,12 +240,13 @@ exception 1100 24
 drop 1
 
 ",
-    );
+    )
 }
 
 // 21 at a later field
-fn later_unknown() {
+fn later_unknown(out: &mut Stdout) -> io::Result<()> {
     play::play(
+        out,
         b"# 21 at a middle field: earlier events stand, later ones are not read
 start 1000
 kernel 1100 -6
@@ -251,12 +261,13 @@ exception 1200 24
 byte 0 0
 
 ",
-    );
+    )
 }
 
 // 22 at a later field
-fn later_length() {
+fn later_length(out: &mut Stdout) -> io::Result<()> {
     play::play(
+        out,
         b"# 22 at a middle field: a call of 21
 start 1000
 kernel 1100 -6
@@ -282,12 +293,13 @@ kernel 1200 -6
 byte 2 1
 
 ",
-    );
+    )
 }
 
 // 23 at a later field
-fn later_start() {
+fn later_start(out: &mut Stdout) -> io::Result<()> {
     play::play(
+        out,
         b"# 23 at the second field: a start again
 start 1000
 start 1000
@@ -305,12 +317,13 @@ kernel 1200 -6
 start 1300
 
 ",
-    );
+    )
 }
 
 // 25
-fn later_mode() {
+fn later_mode(out: &mut Stdout) -> io::Result<()> {
     play::play(
+        out,
         b"# 25 at the first event: mode 2
 start 1000
 kernel 1100 -6
@@ -330,12 +343,13 @@ user 1200 1
 byte 8 2
 
 ",
-    );
+    )
 }
 
 // 20, 21 and 22 before the rest
-fn order_of_heads() {
+fn order_of_heads(out: &mut Stdout) -> io::Result<()> {
     play::play(
+        out,
         b"# order: a head cut is 20, whatever its tag
 start 1000
 kernel 1100 -6
@@ -359,12 +373,13 @@ interrupt 1000 2 0 0
 byte 1 7
 
 ",
-    );
+    )
 }
 
 // 20 before 23, 23 before 25
-fn order_of_values() {
+fn order_of_values(out: &mut Stdout) -> io::Result<()> {
     play::play(
+        out,
         b"# order: a first field that is a cut event is 20
 kernel 1000 -6
 drop 1
@@ -380,12 +395,13 @@ byte 8 2
 drop 1
 
 ",
-    );
+    )
 }
 
 // 20, 22 and 23 before 24; and what stands before a refusal
-fn order_of_starts() {
+fn order_of_starts(out: &mut Stdout) -> io::Result<()> {
     play::play(
+        out,
         b"# order: a start too large and cut is 20
 start 1000 0 4294967295
 drop 1
@@ -419,12 +435,13 @@ exception 1300 24
 byte 0 7
 
 ",
-    );
+    )
 }
 
 // "else refusal 27 after 24"
-fn order_of_ceilings() {
+fn order_of_ceilings(out: &mut Stdout) -> io::Result<()> {
     play::play(
+        out,
         b"# order: a value too large and ceiling 0 at 0: 24
 start 1000 31 2147483648
 ceilings 0
@@ -450,12 +467,13 @@ start 1200
 ceilings 0 21
 
 ",
-    );
+    )
 }
 
 // "29, after 27 wherever that is"
-fn order_of_processors() {
+fn order_of_processors(out: &mut Stdout) -> io::Result<()> {
     play::play(
+        out,
         b"# order: no processor and ceiling 0 at 0: 27
 start 1000
 ceilings 0
@@ -485,12 +503,13 @@ kernel 1100 -6
 byte 8 2
 
 ",
-    );
+    )
 }
 
 // 26
-fn sizes() {
+fn sizes(out: &mut Stdout) -> io::Result<()> {
     play::play(
+        out,
         b"# 65536 bytes are read: field 2 has tag 0
 start 1000
 kernel 1100 -6
@@ -505,24 +524,24 @@ fill 65537
 fill 65537
 
 ",
-    );
+    )
 }
 
-pub(crate) fn all() {
-    first_cut_or_unknown();
-    first_refused();
-    first_layout();
-    first_ceilings();
-    first_processors();
-    later_cut();
-    later_unknown();
-    later_length();
-    later_start();
-    later_mode();
-    order_of_heads();
-    order_of_values();
-    order_of_starts();
-    order_of_ceilings();
-    order_of_processors();
-    sizes();
+pub(crate) fn all(out: &mut Stdout) -> io::Result<()> {
+    first_cut_or_unknown(out)?;
+    first_refused(out)?;
+    first_layout(out)?;
+    first_ceilings(out)?;
+    first_processors(out)?;
+    later_cut(out)?;
+    later_unknown(out)?;
+    later_length(out)?;
+    later_start(out)?;
+    later_mode(out)?;
+    order_of_heads(out)?;
+    order_of_values(out)?;
+    order_of_starts(out)?;
+    order_of_ceilings(out)?;
+    order_of_processors(out)?;
+    sizes(out)
 }

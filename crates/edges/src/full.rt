@@ -1,9 +1,13 @@
 // "The edges of (ii) are tried again with 63 and 64 alive": a table that is full, of one customer, of a broad family
 // and of a deep one.
 
+use std::io;
+use std::io::Stdout;
+
 // Who fills the table, and what is free again.
-fn filled() {
+fn filled(out: &mut Stdout) -> io::Result<()> {
     play::play(
+        out,
         b"# creates with 62, 63 and 64 alive, one customer with all the places
 start 1000
 kernel 1100 -1
@@ -45,12 +49,13 @@ kernel 1500 -1
 kernel 1600 -1
 
 ",
-    );
+    )
 }
 
 // "All who wait for the pseudo-clock go to the ready line, first come first."
-fn ticks() {
+fn ticks(out: &mut Stdout) -> io::Result<()> {
     play::play(
+        out,
         b"# a tick wakes 63, all but slot 0, which runs on; then the first that came
 start 1000
 kernel 1100 -1
@@ -72,12 +77,13 @@ interrupt 1300 2 0 0
 kernel 1400 -10
 
 ",
-    );
+    )
 }
 
 // "The named process and all descendants end."
-fn kills() {
+fn kills(out: &mut Stdout) -> io::Result<()> {
     play::play(
+        out,
         b"# the whole table ends: slot 63's process, of customer 0, ends id 1; any event after that
 start 1000
 kernel 1100 -1
@@ -105,12 +111,13 @@ kernel 1600 -1
 kernel 1700 -1
 
 ",
-    );
+    )
 }
 
 // A chain of 64, each the child of the one before and waiting on semaphore 0, but for the last.
-fn chains() {
+fn chains(out: &mut Stdout) -> io::Result<()> {
     play::play(
+        out,
         b"# a deep family: the last of 64 ends id 2, and with it all but id 1, which waits on: panic
 start 1000
 kernel 1100 -1
@@ -251,12 +258,12 @@ again 63
 kernel 1300 -4 0
 
 ",
-    );
+    )
 }
 
-pub(crate) fn all() {
-    filled();
-    ticks();
-    kills();
-    chains();
+pub(crate) fn all(out: &mut Stdout) -> io::Result<()> {
+    filled(out)?;
+    ticks(out)?;
+    kills(out)?;
+    chains(out)
 }

@@ -1,8 +1,12 @@
 // "Hands off other customers": whom a terminate may name, and that all others live on.
 
+use std::io;
+use std::io::Stdout;
+
 // "only the caller itself or its own descendants"
-fn own_family() {
+fn own_family(out: &mut Stdout) -> io::Result<()> {
     play::play(
+        out,
         b"# another than customer 0 names itself: by 0, and by its own id
 start 1000
 ceilings 1 2
@@ -31,12 +35,13 @@ kernel 2200 -2 3
 kernel 2300 -6
 
 ",
-    );
+    )
 }
 
 // "Any other id gives −1": ended is nobody, whatever line the named one stands in
-fn all_others() {
+fn all_others(out: &mut Stdout) -> io::Result<()> {
     play::play(
+        out,
         b"# hands off: those above and beside the caller, another customer's, customer 0's; all live on
 start 1000
 ceilings 2 6 1
@@ -69,12 +74,13 @@ interrupt 3000 4 2 0
 interrupt 3100 2 0 0
 
 ",
-    );
+    )
 }
 
 // "customer 0 may still name anyone": it is the caller's customer that is asked, and not that of the named one
-fn customer_0() {
+fn customer_0(out: &mut Stdout) -> io::Result<()> {
     play::play(
+        out,
         b"# customer 0 names anyone: other customers' beside it, its sibling, and its own parent
 start 1000
 ceilings 5 3
@@ -97,12 +103,13 @@ kernel 2600 -2 2 ; by id 3: its parent, and both end
 kernel 2700 -9 0
 
 ",
-    );
+    )
 }
 
 // What a terminate that gives −1 leaves as it was, and what (xi) leaves alone.
-fn nobody_ends() {
+fn nobody_ends(out: &mut Stdout) -> io::Result<()> {
     play::play(
+        out,
         b"# hands off: no place is given back; the dead, the unborn and the impossible are -1 as ever
 start 1000
 ceilings 1 2
@@ -129,12 +136,12 @@ exception 1400 0
 user 1500 -2 1
 
 ",
-    );
+    )
 }
 
-pub(crate) fn all() {
-    own_family();
-    all_others();
-    customer_0();
-    nobody_ends();
+pub(crate) fn all(out: &mut Stdout) -> io::Result<()> {
+    own_family(out)?;
+    all_others(out)?;
+    customer_0(out)?;
+    nobody_ends(out)
 }

@@ -1,8 +1,12 @@
 // Devices, the clock lines, and who is served.
 
+use std::io;
+use std::io::Stdout;
+
 // −5, and "device lines never store a permit"
-fn device_calls() {
+fn device_calls(out: &mut Stdout) -> io::Result<()> {
     play::play(
+        out,
         b"# I/O: sub-devices 0 and 47; 48 and above: a program trap, nothing commanded
 start 1000
 kernel 1100 -1 0 0 5
@@ -29,12 +33,13 @@ interrupt 1400 4 3 0
 interrupt 1500 4 2 0
 
 ",
-    );
+    )
 }
 
 // "The first in that sub-device's line becomes ready."
-fn device_lines() {
+fn device_lines(out: &mut Stdout) -> io::Result<()> {
     play::play(
+        out,
         b"# a device line: first come, first woken, one at a time
 start 1000
 kernel 1100 -1
@@ -55,12 +60,13 @@ interrupt 1500 7 2 1
 interrupt 1600 7 2 0
 
 ",
-    );
+    )
 }
 
 // "the lowest pending device number; on line 7 transmission before receipt of that device"
-fn sub_devices() {
+fn sub_devices(out: &mut Stdout) -> io::Result<()> {
     play::play(
+        out,
         b"# sub-devices: the lowest pending device of lines 3 to 6
 start 1000
 interrupt 1100 3 1 0
@@ -86,12 +92,13 @@ interrupt 1100 7 255 255
 interrupt 1100 7 24 20
 
 ",
-    );
+    )
 }
 
 // Lines 1 and 2, −7 and −10
-fn clock_lines() {
+fn clock_lines(out: &mut Stdout) -> io::Result<()> {
     play::play(
+        out,
         b"# line 1 and yield: to the end of the ready line
 start 1000
 kernel 1100 -1
@@ -121,12 +128,13 @@ kernel 1900 -10
 again 2
 
 ",
-    );
+    )
 }
 
 // "all who wait for the pseudo-clock go to the ready line, first come first"
-fn a_full_clock_line() {
+fn a_full_clock_line(out: &mut Stdout) -> io::Result<()> {
     play::play(
+        out,
         b"# 20 wait for the pseudo-clock: one tick wakes them all
 start 1000
 kernel 1100 -1
@@ -137,13 +145,13 @@ interrupt 1300 2 0 0
 kernel 1400 -7
 
 ",
-    );
+    )
 }
 
-pub(crate) fn all() {
-    device_calls();
-    device_lines();
-    sub_devices();
-    clock_lines();
-    a_full_clock_line();
+pub(crate) fn all(out: &mut Stdout) -> io::Result<()> {
+    device_calls(out)?;
+    device_lines(out)?;
+    sub_devices(out)?;
+    clock_lines(out)?;
+    a_full_clock_line(out)
 }

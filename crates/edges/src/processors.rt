@@ -1,8 +1,12 @@
 // Several processors: whose event it is, whose clock, and what a kill leaves behind elsewhere.
 
+use std::io;
+use std::io::Stdout;
+
 // "A processor number out of range is refused with 7, after 1"
-fn out_of_range() {
+fn out_of_range(out: &mut Stdout) -> io::Result<()> {
     play::play(
+        out,
         b"# 7: processor 2 of two, before 5, 6 and 2; after 1
 start 1000
 processors 2
@@ -17,12 +21,13 @@ on 2
 kernel 1200 -6
 
 ",
-    );
+    )
 }
 
 // "each has its own last clock reading"; "refusals 2 and 4 speak of the named processor"
-fn own_clocks() {
+fn own_clocks(out: &mut Stdout) -> io::Result<()> {
     play::play(
+        out,
         b"# each processor's gaps are its own: 2 is asked of its own last reading
 start 1000
 processors 2
@@ -44,12 +49,13 @@ interrupt 1100 1 0 0
 user 1100 1
 
 ",
-    );
+    )
 }
 
 // "A wake on one processor doesn't start an idle one; an interrupt of lines 2 to 7 there does."
-fn idle_ones() {
+fn idle_ones(out: &mut Stdout) -> io::Result<()> {
     play::play(
+        out,
         b"# a wake elsewhere starts nobody here; an interrupt here does
 start 1000
 processors 2
@@ -76,12 +82,13 @@ on 1
 interrupt 1500 2 0 0
 
 ",
-    );
+    )
 }
 
 // "A kill that ends a process on another processor leaves that one idle and names it in a new mask"
-fn kills_elsewhere() {
+fn kills_elsewhere(out: &mut Stdout) -> io::Result<()> {
     play::play(
+        out,
         b"# a kill names the processor that it leaves idle, and not those that go on
 start 1000
 processors 3
@@ -119,12 +126,12 @@ on 0
 exception 1300 10
 
 ",
-    );
+    )
 }
 
-pub(crate) fn all() {
-    out_of_range();
-    own_clocks();
-    idle_ones();
-    kills_elsewhere();
+pub(crate) fn all(out: &mut Stdout) -> io::Result<()> {
+    out_of_range(out)?;
+    own_clocks(out)?;
+    idle_ones(out)?;
+    kills_elsewhere(out)
 }

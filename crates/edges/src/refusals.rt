@@ -2,9 +2,13 @@
 // 65,536 bytes has fewer than 8,200 events, and each gap is below 2 to the 31: no log reaches it, and the proofs alone
 // show it.)
 
+use std::io;
+use std::io::Stdout;
+
 // "line not 1 to 7; or line 3 to 6 with first byte zero; or line 7 with both zero"
-fn lines() {
+fn lines(out: &mut Stdout) -> io::Result<()> {
     play::play(
+        out,
         b"# refusal 5: line not 1 to 7
 start 1000
 interrupt 1100 0 1 1
@@ -33,12 +37,13 @@ interrupt 1700 7 128 0
 interrupt 1800 7 0 128
 
 ",
-    );
+    )
 }
 
 // "exception code 8, 11 or above 28"; "the clock went back"
-fn codes_and_clock() {
+fn codes_and_clock(out: &mut Stdout) -> io::Result<()> {
     play::play(
+        out,
         b"# refusal 6: exception code 8, 11 or above 28
 start 1000
 exception 1100 8
@@ -56,12 +61,13 @@ exception 999 24
 kernel 1000 -6
 
 ",
-    );
+    )
 }
 
 // "call, exception or line 1 while nobody is running"; "Checked in the order of the rows"
-fn nobody_and_order() {
+fn nobody_and_order(out: &mut Stdout) -> io::Result<()> {
     play::play(
+        out,
         b"# refusal 4: call, exception or line 1 while nobody is running; it moves no clock
 start 1000
 kernel 1100 -7
@@ -88,11 +94,11 @@ interrupt 1099 1 0 0
 kernel 1100 -6
 
 ",
-    );
+    )
 }
 
-pub(crate) fn all() {
-    lines();
-    codes_and_clock();
-    nobody_and_order();
+pub(crate) fn all(out: &mut Stdout) -> io::Result<()> {
+    lines(out)?;
+    codes_and_clock(out)?;
+    nobody_and_order(out)
 }

@@ -1,8 +1,12 @@
 // The whole example, and "Edges to try" of the rules.
 
+use std::io;
+use std::io::Stdout;
+
 // "Whole example"
-fn example() {
+fn example(out: &mut Stdout) -> io::Result<()> {
     play::play(
+        out,
         b"# the whole example
 start 1000 0 1
 kernel 1500 -1
@@ -16,13 +20,14 @@ interrupt 2100 7 1 0
 kernel 2200 -2 0
 
 ",
-    );
+    )
 }
 
 // "Create with 19 alive, with 20 (−1), with 20 then a childless one killed", where customer 0 has all places, which are
 // 64 with (v)
-fn creates() {
+fn creates(out: &mut Stdout) -> io::Result<()> {
     play::play(
+        out,
         b"# create with 63 alive
 start 1000
 kernel 1100 -1
@@ -39,12 +44,13 @@ kernel 1500 -1
 kernel 1600 -2 1
 
 ",
-    );
+    )
 }
 
 // "Gap 2,147,483,647, 2,147,483,648", "Clock from 4,294,967,295 to 4"
-fn gaps() {
+fn gaps(out: &mut Stdout) -> io::Result<()> {
     play::play(
+        out,
         b"# gap 2147483647
 start 1000
 kernel 2147484647 -6
@@ -59,12 +65,13 @@ start 4294967295
 kernel 4 -6
 
 ",
-    );
+    )
 }
 
 // "P at 1, at 0 alone", "V with a waiter", "V at the top, no handle", "Line 7, bytes 2 and 1"
-fn values() {
+fn values(out: &mut Stdout) -> io::Result<()> {
     play::play(
+        out,
         b"# P at 1; the value is 0 after it
 start 1000 5 1
 kernel 1100 -3 5
@@ -92,12 +99,13 @@ start 1000
 interrupt 1100 7 2 1
 
 ",
-    );
+    )
 }
 
 // "Kill by a child of its parent", where the child is customer 0
-fn kills() {
+fn kills(out: &mut Stdout) -> io::Result<()> {
     play::play(
+        out,
         b"# kill by a child of its parent, customer 0: both end
 start 1000
 kernel 1100 -1
@@ -114,12 +122,13 @@ kernel 1500 -10
 kernel 1600 -2 2
 
 ",
-    );
+    )
 }
 
 // 02, (xi): "now gives −1 and ends nobody, unless the child is customer 0"
-fn denied_kills() {
+fn denied_kills(out: &mut Stdout) -> io::Result<()> {
     play::play(
+        out,
         b"# kill by a child of its parent, the child customer 1: -1, and nobody ends
 start 1000
 ceilings 1 1
@@ -142,12 +151,13 @@ kernel 1700 -10
 kernel 1800 -2 0
 
 ",
-    );
+    )
 }
 
 // "Kill of a waiter, then V"
-fn killed_waiter() {
+fn killed_waiter(out: &mut Stdout) -> io::Result<()> {
     play::play(
+        out,
         b"# kill of a waiter, then V: the value rises
 start 1000
 kernel 1100 -1
@@ -159,12 +169,13 @@ kernel 1600 -3 4
 kernel 1700 -3 4
 
 ",
-    );
+    )
 }
 
 // "Tick with nobody waiting", "Any event after halt"
-fn quiet() {
+fn quiet(out: &mut Stdout) -> io::Result<()> {
     play::play(
+        out,
         b"# tick with nobody waiting, and no permit is kept
 start 1000
 interrupt 1100 2 0 0
@@ -194,16 +205,16 @@ interrupt 1050 9 0 0
 exception 1050 11
 
 ",
-    );
+    )
 }
 
-pub(crate) fn all() {
-    example();
-    creates();
-    gaps();
-    values();
-    kills();
-    denied_kills();
-    killed_waiter();
-    quiet();
+pub(crate) fn all(out: &mut Stdout) -> io::Result<()> {
+    example(out)?;
+    creates(out)?;
+    gaps(out)?;
+    values(out)?;
+    kills(out)?;
+    denied_kills(out)?;
+    killed_waiter(out)?;
+    quiet(out)
 }

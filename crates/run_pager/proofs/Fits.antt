@@ -6,7 +6,7 @@ use Prim.Native.Nat.{ℕ, ◌≤◌}
 use native.Mathlib.Omega.{arith}
 use lib.Dec.{leb}
 use lib.ListN.{length, drop, length-append}
-use Rattle.rules.specs.Words.{if◌then◌else◌}
+use Rattle.std.specs.Prelude.{if◌then◌else◌}
 use Rattle.report.specs.declared.Written.{Written}
 use Rattle.report.specs.declared.Written.TheVariants.{Bytes, NoRoom}
 use Rattle.report.specs.Buffer.{Writes, longest}

@@ -1,31 +1,50 @@
 // The program of the pager: a text of events on standard input, a line an event on standard output. First every line is
 // read; where one is bad, that is told on standard error and nothing else is written. What it does is decided below it:
 // it moves bytes.
-ghost use Rattle.std.specs.Prelude.{◌≡◌, ◌≤◌, ◌<◌, length};
+#![tactic(auto)]
+
+ghost use Rattle.std.specs.Prelude.{◌≡◌, ◌≤◌, ◌<◌, ◌==◌, true, [], length, IfOk, OnOk, if◌then◌else◌};
+ghost use Rattle.std.specs.Io.KnownBytes.{Keeps, Appends};
+ghost use Rattle.pager_text.specs.Answers.{line};
 ghost use Rattle.pager_asks.specs.declared.Ask.TheVariants.{Asked};
 ghost use Rattle.pager_asks.specs.Asks.{Sized};
+ghost use Rattle.words.specs.Texts.{line_at, word_at, nth};
+ghost use Rattle.words.specs.Complaints.{complaint};
 ghost use Rattle.run_pager.specs.Acts.{Standing, quiet, acted};
+ghost use Rattle.run_pager.specs.Told.{expected_text};
+ghost use Rattle.run_pager.specs.Said.{said, good, complaint_of, Ends};
 
-use console::Got;
 use lender::{SwapTable, resized, with_row};
 use lent::Keeper;
-use libc::{STDERR_FILENO, STDOUT_FILENO};
 use pager_asks::{Ask, Expected, asked_by};
 use pager_text::write_answer;
 use pages::{Answer, Event, Word};
 use report::Written;
-use words::{Line, complain, line_at, word_at};
+use std::io;
+use std::io::Write;
+use std::process::ExitCode;
+use streams::{READER_GONE, is_reader_gone};
+use words::{Line, Word as Span, complain, line_at, word_at};
 
 // One byte more than a text may have.
 const ENOUGH: usize = 65537;
 
 // The table that is lent to the pager, what the pager keeps, and its answer; 1 where there is one, else 0.
-#[derive(Drop)]
+#[derive(Clone, Copy)]
 struct Acted {
     table: SwapTable,
     keeper: Keeper,
     more: u32,
     answer: Answer,
+}
+
+// How a text ends: all is answered; a bad line is told; a line can't be written; or whoever read them has gone.
+#[derive(Clone, Copy)]
+enum Ending {
+    Answered,
+    Told,
+    Unwritten,
+    ReaderGone,
 }
 
 fn silent(t: SwapTable, k: Keeper) -> Acted
@@ -74,43 +93,41 @@ fn act(t: SwapTable, k: Keeper, ask: Ask) -> Acted
     }
 }
 
-// The line of an answer at the front of a buffer: how long it is.
-fn put_line(out: &mut [u8], number: u32, answer: Answer) -> usize
-    ensures { result ≤ length out.new }
+// The line of an answer.
+fn answered<W: Write>(out: &mut W, number: u32, answer: Answer) -> io::Result<()>
+    ensures { OnOk result (Appends (W.contents out.old) (W.contents out.new) (line number answer)) }
 {
-    let written = write_answer(out, number, answer);
+    let mut said = [0u8; 128];
+    let written = write_answer(&mut said, number, answer);
     let Written::Bytes(n) = written else {
-        return 0;
+        unreachable!();
     };
-    n
-}
-
-// The line of an answer; false where it could not be written.
-fn answered(number: u32, answer: Answer) -> bool {
-    let mut out = [0u8; 128];
-    let n = put_line(&mut out, number, answer);
-    io::write_all(STDOUT_FILENO, &out[..n])
+    out.write_all(&said[..n])
 }
 
 // The same, where there is an answer.
-fn told(more: u32, number: u32, answer: Answer) -> bool {
+fn told<W: Write>(out: &mut W, more: u32, number: u32, answer: Answer) -> io::Result<()>
+    ensures { OnOk result (Appends (W.contents out.old) (W.contents out.new) (if more == 0 then [] else line number answer)) }
+{
     if more == 0 {
-        return true;
+        return Ok(());
     }
-    answered(number, answer)
+    answered(out, number, answer)
 }
 
 // The line at a place: within the text, and the next one begins behind it.
 fn line_in(text: &[u8], at: usize) -> Line
     requires { at < length text.now }
-    ensures { (at ≤ result.end) × (result.end ≤ length text.now) × (at < result.next) × (result.next ≤ length text.now) }
+    ensures within { (at ≤ result.end) × (result.end ≤ length text.now) × (at < result.next) × (result.next ≤ length text.now) }
+    ensures place { result ≡ line_at text.now at }
 {
     line_at(text, at)
 }
 
-// The lines of a text whose lines are all good; false where one could not be written.
-fn run(text: &[u8]) -> bool
+// The lines of a text whose lines are all good. A write that fails ends it.
+fn run<W: Write>(out: &mut W, text: &[u8]) -> io::Result<()>
     requires { length text.now < 65537 }
+    ensures { OnOk result (Appends (W.contents out.old) (W.contents out.new) (said text.now)) }
 {
     let mut t = lender::fresh();
     let mut k = lent::fresh();
@@ -124,111 +141,109 @@ fn run(text: &[u8]) -> bool
         let answer = done.answer;
         let more = done.more;
         number = number + more;
-        if !told(more, number, answer) {
-            return false;
-        }
+        told(out, more, number, answer)?;
         t = done.table;
         k = done.keeper;
         at = line.next;
     }
-    true
+    Ok(())
 }
 
-// What is said of the k-th word of a line, at the front of a buffer: how long it is.
-fn put_complaint(out: &mut [u8], line: &[u8], number: u64, k: usize, expected: &[u8]) -> usize
-    ensures { result ≤ length out.new }
+// The k-th word of a line: within it.
+fn word_in(line: &[u8], k: usize) -> Span
+    ensures within { (result.from ≤ result.to) × (result.to ≤ length line.now) }
+    ensures place { result ≡ word_at line.now k }
 {
-    let w = word_at(line, k);
-    let from = w.from;
-    let to = w.to;
-    let written = complain(out, number, &line[from..to], expected);
+    word_at(line, k)
+}
+
+// What is said of the k-th word of a line, which was expected to be something else.
+fn tell<W: Write>(
+    err: &mut W,
+    line: &[u8],
+    number: u64,
+    k: usize,
+    expected: Expected,
+) -> io::Result<()>
+    ensures { OnOk result (Appends (W.contents err.old) (W.contents err.new) (complaint number (nth line.now k) (expected_text expected))) }
+{
+    let word = word_in(line, k);
+    let mut said = [0u8; 256];
+    let words = words_of(expected);
+    let written = complain(&mut said, number, &line[word.from..word.to], words);
     let Written::Bytes(n) = written else {
-        return 0;
+        unreachable!();
     };
-    n
+    err.write_all(&said[..n])
 }
 
-fn tell(line: &[u8], number: u64, k: usize, expected: &[u8]) {
-    let mut out = [0u8; 256];
-    let n = put_complaint(&mut out, line, number, k, expected);
-    io::write_all(STDERR_FILENO, &out[..n]);
-}
-
-fn tell_of(line: &[u8], number: u64, k: usize, expected: Expected) {
+// What was expected, in words.
+fn words_of(expected: Expected) -> &'static [u8]
+    ensures { result.now ≡ expected_text expected }
+{
     match expected {
-        Expected::Command => tell(line, number, k, b"refill, fault, report, end, rows or row"),
-        Expected::Number => tell(
-            line,
-            number,
-            k,
-            b"a number from 0 to 4294967295, decimal or 0x",
-        ),
-        Expected::Cause => tell(line, number, k, b"load, store or mod"),
-        Expected::Outcome => tell(line, number, k, b"ok or failed"),
-        Expected::Count => tell(line, number, k, b"a number of rows from 0 to 64"),
-        Expected::Frame => tell(line, number, k, b"a frame from 0 to 63"),
-        Expected::Byte => tell(line, number, k, b"a number from 0 to 255"),
-        Expected::Nothing => tell(line, number, k, b"the end of the line"),
+        Expected::Command => b"refill, fault, report, end, rows or row",
+        Expected::Number => b"a number from 0 to 4294967295, decimal or 0x",
+        Expected::Cause => b"load, store or mod",
+        Expected::Outcome => b"ok or failed",
+        Expected::Count => b"a number of rows from 0 to 64",
+        Expected::Frame => b"a frame from 0 to 63",
+        Expected::Byte => b"a number from 0 to 255",
+        Expected::Nothing => b"the end of the line",
     }
 }
 
-// All lines are good; where one is not, it is told.
-fn all_good(text: &[u8]) -> bool {
+// All lines are good; the first that is not is told.
+fn all_good<E: Write>(err: &mut E, text: &[u8]) -> io::Result<bool>
+    ensures good { IfOk result (λ all. all ≡ good text.now) }
+    ensures quiet { IfOk result (λ all. all ≡ true → Keeps (E.contents err.old) (E.contents err.new)) }
+    ensures told { OnOk result (Appends (E.contents err.old) (E.contents err.new) (complaint_of text.now)) }
+{
     let mut number: u64 = 0;
     let mut at: usize = 0;
     while at < text.len() {
-        number = number + 1;
+        number += 1;
         let line = line_in(text, at);
         let end = line.end;
         let ask = asked_by(&text[at..end]);
-        if is_bad(ask) {
-            tell_bad(&text[at..end], number, ask);
-            return false;
+        if let Ask::Bad(k, expected) = ask {
+            tell(err, &text[at..end], number, k, expected)?;
+            return Ok(false);
         }
         at = line.next;
     }
-    true
-}
-
-fn is_bad(ask: Ask) -> bool {
-    match ask {
-        Ask::Empty => false,
-        Ask::Asked(_) => false,
-        Ask::Length(_) => false,
-        Ask::Set(_, _) => false,
-        Ask::Bad(_, _) => true,
-    }
-}
-
-fn tell_bad(line: &[u8], number: u64, ask: Ask) {
-    let Ask::Bad(k, expected) = ask else {
-        return;
-    };
-    tell_of(line, number, k, expected);
+    Ok(true)
 }
 
 // The lines of a text, or what is wrong with it.
-fn work(text: &[u8])
+fn work<W: Write, E: Write>(out: &mut W, err: &mut E, text: &[u8]) -> io::Result<Ending>
     requires { length text.now < 65537 }
+    ensures { IfOk result (λ ending. Ends ending text.now (W.contents out.old) (W.contents out.new) (E.contents err.old) (E.contents err.new)) }
 {
-    if !all_good(text) {
-        return;
+    if !all_good(err, text)? {
+        return Ok(Ending::Told);
     }
-    if !run(text) {
-        io::write_all(STDERR_FILENO, b"the lines can't be written\n");
+    match run(out, text) {
+        Ok(()) => Ok(Ending::Answered),
+        Err(error) if is_reader_gone(&error) => Ok(Ending::ReaderGone),
+        Err(_) => Ok(Ending::Unwritten),
     }
 }
 
-fn main() {
+fn main(rt: HostRuntime) -> io::Result<ExitCode> {
     let mut text = [0u8; ENOUGH];
-    let got = console::read(&mut text);
-    let Got::Bytes(n) = got else {
-        io::write_all(STDERR_FILENO, b"the text can't be read\n");
-        return;
+    let Ok(n) = streams::read(&mut rt.stdin(), &mut text) else {
+        eprintln!(rt; "the text can't be read")?;
+        return Ok(ExitCode::SUCCESS);
     };
     if ENOUGH <= n {
-        io::write_all(STDERR_FILENO, b"the text has more than 65536 bytes\n");
-        return;
+        eprintln!(rt; "the text has more than 65536 bytes")?;
+        return Ok(ExitCode::SUCCESS);
     }
-    work(&text[..n]);
+    match work(&mut rt.stdout(), &mut rt.stderr(), &text[..n])? {
+        Ending::Answered | Ending::Told => {}
+        Ending::Unwritten => eprintln!(rt; "the lines can't be written")?,
+        Ending::ReaderGone => return Ok(ExitCode::from(READER_GONE)),
+    }
+    Ok(ExitCode::SUCCESS)
 }

@@ -1,42 +1,65 @@
 // The program that tries the sleepers out: it reads lines `gap N`, `ask U A1`, `tick`, `end U` on standard input
 // and writes a line for each of the last three. Where a line is bad it writes one line on standard error and
 // nothing else.
-ghost use Rattle.std.specs.Prelude.{◌+◌, ◌≤◌};
-ghost use Rattle.sleeping.specs.Promised.{Good, Whole};
+#![tactic(auto)]
 
-use libc::{STDERR_FILENO, STDIN_FILENO, STDOUT_FILENO};
+ghost use Rattle.std.specs.Prelude.{◌≡◌, ◌+◌, ◌≤◌, ◌<◌, length, IfOk, OnOk};
+ghost use Rattle.std.specs.Io.KnownBytes.{Appends};
+ghost use Rattle.words.specs.Texts.{line_at, nth};
+ghost use Rattle.words.specs.Complaints.{complaint};
+ghost use Rattle.sleeping.specs.Promised.{Good, Whole, view};
+ghost use Rattle.sleep_text.specs.Lines.{wanted_text};
+ghost use Rattle.sleep_text.specs.Answers.{answer_line};
+ghost use Rattle.run_sleep.specs.Said.{is_gap, line_said, said, Ends};
+
 use report::Written;
-use sleep_text::{Parsed, Verdict};
+use sleep_text::{Parsed, Verdict, Wanted};
 use sleeps::{Answer, Operation, Sleepers};
+use std::io;
+use std::io::Write;
+use std::process::ExitCode;
+use streams::{READER_GONE, is_reader_gone};
+use words::{Line, line_at};
 
 // One byte more than a text may have, 65,536: enough to know that it has more.
 const ENOUGH: usize = 65537;
 
-// The sleepers, how many answers were written, and that the last one was.
-#[derive(Drop)]
+// Room for a line, of an answer or about a bad line.
+const LINE: usize = 256;
+
+// The sleepers, and how many answers were written.
+#[derive(Clone, Copy)]
 struct Going {
     sleepers: Sleepers,
     number: u64,
-    fine: bool,
+}
+
+// How a text ends: all is answered; a bad line is told; a line can't be written; or whoever read them has gone.
+#[derive(Clone, Copy)]
+enum Ending {
+    Answered,
+    Told,
+    Unwritten,
+    ReaderGone,
 }
 
 // An answer's line.
-fn say(number: u64, answer: Answer) -> bool
+fn say<W: Write>(out: &mut W, number: u64, answer: Answer) -> io::Result<()>
     requires { Whole answer }
+    ensures { OnOk result (Appends (W.contents out.old) (W.contents out.new) (answer_line number answer)) }
 {
-    let mut out = io::buffer();
-    let wrote = sleep_text::write_answer(&mut out, number, answer);
-    let Written::Bytes(n) = wrote else {
-        return false;
+    let mut line = [0u8; LINE];
+    let written = sleep_text::write_answer(&mut line, number, answer);
+    let Written::Bytes(n) = written else {
+        unreachable!();
     };
-    if out.len() < n {
-        return false;
-    }
-    io::write_all(STDOUT_FILENO, &out[..n])
+    out.write_all(&line[..n])
 }
 
 // A gap "writes nothing".
-fn is_gap(operation: Operation) -> bool {
+fn is_gap(operation: Operation) -> bool
+    ensures { result ≡ is_gap operation }
+{
     match operation {
         Operation::Gap(_) => true,
         Operation::Ask(_, _) => false,
@@ -46,79 +69,79 @@ fn is_gap(operation: Operation) -> bool {
 }
 
 // What a line says is done, and answered.
-fn turn(sleepers: Sleepers, said: Parsed, number: u64) -> Going
+fn turn<W: Write>(out: &mut W, sleepers: Sleepers, parsed: Parsed, number: u64) -> io::Result<Going>
     requires { Good sleepers × (number + 1 ≤ 18446744073709551615) }
-    ensures { Good result.sleepers × (result.number ≤ number + 1) }
+    ensures good { IfOk result (λ going. Good going.sleepers × (going.number ≤ number + 1)) }
+    ensures after { IfOk result (λ going. (view going.sleepers ≡ (line_said parsed (view sleepers) number).after) × (going.number ≡ (line_said parsed (view sleepers) number).number)) }
+    ensures bytes { OnOk result (Appends (W.contents out.old) (W.contents out.new) (line_said parsed (view sleepers) number).bytes) }
 {
-    let Parsed::Means(operation) = said else {
-        return Going {
-            sleepers,
-            number,
-            fine: true,
-        };
+    let Parsed::Means(operation) = parsed else {
+        return Ok(Going { sleepers, number });
     };
-    let step = sleeping::step(sleepers, operation);
-    let after = step.sleepers;
-    let answer = step.answer;
+    let done = sleeping::step(sleepers, operation);
+    let after = done.sleepers;
     if is_gap(operation) {
-        return Going {
+        return Ok(Going {
             sleepers: after,
             number,
-            fine: true,
-        };
+        });
     }
-    let fine = say(number + 1, answer);
-    Going {
+    say(out, number + 1, done.answer)?;
+    Ok(Going {
         sleepers: after,
         number: number + 1,
-        fine,
-    }
+    })
 }
 
-// Every line in order; false where a line can't be written.
-fn answer(text: &[u8]) -> bool {
+// The line at a place: within the text, and the next one begins behind it.
+fn line_in(text: &[u8], at: usize) -> Line
+    requires { at < length text.now }
+    ensures within { (at ≤ result.end) × (result.end ≤ length text.now) × (at < result.next) × (result.next ≤ length text.now) }
+    ensures place { result ≡ line_at text.now at }
+{
+    line_at(text, at)
+}
+
+// Every line in order. A write that fails ends it.
+fn answer<W: Write>(out: &mut W, text: &[u8]) -> io::Result<()>
+    ensures { OnOk result (Appends (W.contents out.old) (W.contents out.new) (said text.now)) }
+{
     let mut sleepers = sleeping::fresh();
     let mut number = 0;
     let mut at = 0;
     while at < text.len() {
-        let line = words::line_at(text, at);
-        let to = line.end;
-        let said = sleep_text::parse(&text[at..to]);
-        let going = turn(sleepers, said, number);
-        if !going.fine {
-            return false;
-        }
+        let line = line_in(text, at);
+        let parsed = sleep_text::parse(&text[at..line.end]);
+        let going = turn(out, sleepers, parsed, number)?;
         sleepers = going.sleepers;
         number = going.number;
         at = line.next;
     }
-    true
+    Ok(())
 }
 
 // The one line about a bad line.
-fn complain(text: &[u8], number: u64, from: usize, to: usize, said: Parsed) {
-    let Parsed::Bad(k, wanted) = said else {
-        return;
+fn complain<E: Write>(
+    err: &mut E,
+    number: u64,
+    line: &[u8],
+    k: usize,
+    wanted: Wanted,
+) -> io::Result<()>
+    ensures { OnOk result (Appends (E.contents err.old) (E.contents err.new) (complaint number (nth line.now k) (wanted_text wanted))) }
+{
+    let mut said = [0u8; LINE];
+    let written = sleep_text::complain_of(&mut said, number, line, k, wanted);
+    let Written::Bytes(n) = written else {
+        unreachable!();
     };
-    if text.len() < to {
-        return;
-    }
-    if to < from {
-        return;
-    }
-    let mut out = io::buffer();
-    let wrote = sleep_text::complain_of(&mut out, number, &text[from..to], k, wanted);
-    let Written::Bytes(n) = wrote else {
-        return;
-    };
-    if out.len() < n {
-        return;
-    }
-    io::write_all(STDERR_FILENO, &out[..n]);
+    err.write_all(&said[..n])
 }
 
 // A text that is whole: looked at first, and then answered.
-fn go(text: &[u8]) {
+fn go<W: Write, E: Write>(out: &mut W, err: &mut E, text: &[u8]) -> io::Result<Ending>
+    ensures { IfOk result (λ ending. Ends ending text.now (W.contents out.old) (W.contents out.new) (E.contents err.old) (E.contents err.new)) }
+{
     let verdict = sleep_text::first_bad(text);
     if let Verdict::Wrong {
         number,
@@ -127,30 +150,33 @@ fn go(text: &[u8]) {
         said,
     } = verdict
     {
-        complain(text, number, from, to, said);
-        return;
+        let Parsed::Bad(k, wanted) = said else {
+            unreachable!();
+        };
+        complain(err, number, &text[from..to], k, wanted)?;
+        return Ok(Ending::Told);
     }
-    if !answer(text) {
-        io::write_all(STDERR_FILENO, b"the lines can't be written\n");
+    match answer(out, text) {
+        Ok(()) => Ok(Ending::Answered),
+        Err(error) if is_reader_gone(&error) => Ok(Ending::ReaderGone),
+        Err(_) => Ok(Ending::Unwritten),
     }
 }
 
-// A read that failed ends the text too soon: one read more tells.
-fn is_broken() -> bool {
-    let mut one = [0u8; 1];
-    libc::read(STDIN_FILENO, &mut one) < 0
-}
-
-fn main() {
+fn main(rt: HostRuntime) -> io::Result<ExitCode> {
     let mut text = [0u8; ENOUGH];
-    let n = io::read_full(STDIN_FILENO, &mut text);
+    let Ok(n) = streams::read(&mut rt.stdin(), &mut text) else {
+        eprintln!(rt; "the text can't be read")?;
+        return Ok(ExitCode::SUCCESS);
+    };
     if ENOUGH <= n {
-        io::write_all(STDERR_FILENO, b"the text has more than 65536 bytes\n");
-        return;
+        eprintln!(rt; "the text has more than 65536 bytes")?;
+        return Ok(ExitCode::SUCCESS);
     }
-    if is_broken() {
-        io::write_all(STDERR_FILENO, b"the text can't be read\n");
-        return;
+    match go(&mut rt.stdout(), &mut rt.stderr(), &text[..n])? {
+        Ending::Answered | Ending::Told => {}
+        Ending::Unwritten => eprintln!(rt; "the lines can't be written")?,
+        Ending::ReaderGone => return Ok(ExitCode::from(READER_GONE)),
     }
-    go(&text[..n]);
+    Ok(ExitCode::SUCCESS)
 }

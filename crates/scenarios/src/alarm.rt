@@ -1,8 +1,12 @@
 // The day of the alarm, with alarms first.
 
+use std::io;
+use std::io::Stdout;
+
 // The alarm's processes are high: each is chosen before the flood of low ones, which still gets its turn after four.
-pub(crate) fn first() {
+pub(crate) fn first(out: &mut Stdout) -> io::Result<()> {
     play::play(
+        out,
         b"# the day of the alarm: its processes are chosen before a flood of low ones, which is not forgotten
 start 1000
 ceilings 2 10 4 ; the gateway's own, the customer that floods, the customer whose bearing cracks
@@ -34,5 +38,5 @@ kernel 3300 -5 40 ; it waits
 interrupt 3400 2 0 0 ; a tick: the gateway is ready
 
 ",
-    );
+    )
 }

@@ -1,9 +1,13 @@
 // The demonstration of source document 004 (section 4.7.2): main_body starts two workers, and each signals when it has
 // counted.
 
+use std::io;
+use std::io::Stdout;
+
 // A worker carries on after its signal, since nobody is preempted: it ends before main_body goes on.
-pub(crate) fn demonstration() {
+pub(crate) fn demonstration(out: &mut Stdout) -> io::Result<()> {
     play::play(
+        out,
         b"# document 004, its demonstration: two workers count, one after the other
 start 1000 ; semaphore 0 is end_count, made with value 0
 kernel 1100 -1 0 1 ; main_body starts the first worker
@@ -35,17 +39,18 @@ kernel 2110 -2 0
 kernel 2120 -2 0
 
 ",
-    );
+    )
 }
 
 // "The named process and all descendants end"
-pub(crate) fn difference() {
+pub(crate) fn difference(out: &mut Stdout) -> io::Result<()> {
     play::play(
+        out,
         b"# where 004 differs: its main ends at once and main_body lives on; here a child ends with its parent
 start 1000
 kernel 1010 -1 0 2
 kernel 1020 -2 0
 
 ",
-    );
+    )
 }

@@ -1,8 +1,12 @@
 // The day of the accident, with a ceiling for each customer. All its processes are low.
 
+use std::io;
+use std::io::Stdout;
+
 // One customer's flood is denied at its own ceiling; the other customer's alarm gets its process in the same breath.
-pub(crate) fn accident() {
+pub(crate) fn accident(out: &mut Stdout) -> io::Result<()> {
     play::play(
+        out,
         b"# the day of the accident: a flood of creates, and an alarm that is sent
 start 1000
 ceilings 2 10 8 ; the gateway's own, the customer that floods, the customer whose bearing cracks
@@ -36,13 +40,14 @@ kernel 3300 -2 2 ; the gateway ends customer 1's process with all of its flood
 kernel 3400 -1 0 256 ; there is room for it from slot 1 on
 
 ",
-    );
+    )
 }
 
 // The same day where all 64 places are taken: the flood to its ceiling, the other customer to its own, the gateway to
 // the last.
-pub(crate) fn larger() {
+pub(crate) fn larger(out: &mut Stdout) -> io::Result<()> {
     play::play(
+        out,
         b"# the day of the accident on a gateway of 64 places: the flood holds 40 of them, and the alarm is sent
 start 1000
 ceilings 2 40 22 ; the gateway's own, the customer that floods, the customer whose bearing cracks
@@ -80,5 +85,5 @@ kernel 3700 -2 1 ; one of the twenty may not name the gateway's process
 interrupt 3800 1 0 0
 
 ",
-    );
+    )
 }

@@ -1,8 +1,12 @@
 // A day with three processors under one set of lines.
 
+use std::io;
+use std::io::Stdout;
+
 // A kill leaves another processor idle while someone is ready; only that processor's next interrupt starts one.
-pub(crate) fn processors() {
+pub(crate) fn processors(out: &mut Stdout) -> io::Result<()> {
     play::play(
+        out,
         b"# the day of three processors: a kill leaves one idle while someone is ready, until its next interrupt
 start 1000
 ceilings 2 6 4 ; the gateway's own, the customer with the tools, the customer with the recorder
@@ -36,5 +40,5 @@ kernel 2400 -2 3 ; and the recorder, on processor 2
 kernel 2500 -2 0 ; and itself: nobody is alive
 
 ",
-    );
+    )
 }

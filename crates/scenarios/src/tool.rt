@@ -1,8 +1,12 @@
 // The day on which a tool killed another customer's process, with hands off other customers.
 
+use std::io;
+use std::io::Stdout;
+
 // The tool's call gives −1, and the other customer's process lives on; its own worker the tool may end.
-pub(crate) fn kept_off() {
+pub(crate) fn kept_off(out: &mut Stdout) -> io::Result<()> {
     play::play(
+        out,
         b"# the day of the tool: it names another customer's process, gets -1, and the process lives on
 start 1000
 ceilings 2 4 4 ; the gateway's own, the customer with the tool, the other customer
@@ -29,5 +33,5 @@ kernel 3000 -2 0 ; the shell ends
 kernel 3100 -2 0 ; the gateway ends, and nobody is alive
 
 ",
-    );
+    )
 }

@@ -1,0 +1,2 @@
+-- Laws that no single function's proof owns.
+pub mod Turns

@@ -1,0 +1,2 @@
+-- How one log of many is read and answered.
+pub mod Framed

@@ -1,0 +1,16 @@
+use Rattle.std.proofs.Common.{ℕ, List, length, ◌-◌, ◌≤◌}
+use Rattle.std.specs.Io.KnownBytes.{Appends}
+use Rattle.run_pager.specs.Acts.{Standing}
+use Rattle.run_pager.proofs.Telling.{Telling}
+use Rattle.run_pager.proofs.run.Given as goal
+
+abbrev pub invariant-loop-at : goal.invariant-loop-at
+invariant-loop-at g l = record {
+  standing : Standing l.t l.k;
+  few : l.number ≤ l.at;
+  within : l.at ≤ length l.text;
+  told : (w : List ℕ) × Appends (g.W.Write.contents l.initial.out) (g.W.Write.contents l.out) w × Telling l.text l.at l.t l.k l.number w;
+}
+
+abbrev pub decreases-loop-at : goal.decreases-loop-at
+decreases-loop-at g l = length l.text - l.at

@@ -1,0 +1,3 @@
+-- Laws that no single function's proof owns.
+pub mod Telling
+pub mod Verdicts

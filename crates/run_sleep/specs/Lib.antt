@@ -1,0 +1,2 @@
+-- What the program writes of a text.
+pub mod Said
