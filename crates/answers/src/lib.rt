@@ -1,4 +1,6 @@
 // An answer, built step by step: what it holds so far, and then its action.
+#![tactic(auto)]
+
 ghost use Rattle.std.specs.Prelude.{◌≡◌, ◌≤◌, pos};
 ghost use Rattle.rules.specs.declared.Result.TheVariants.{Says};
 ghost use Rattle.rules.specs.Numbers.{time_limit};

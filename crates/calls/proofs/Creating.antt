@@ -1,6 +1,7 @@
 -- The call −1, over machines alone: which slot is the lowest free one, that there is one for a customer below its
 -- ceiling, and what the call comes to.
 -- Assumes nothing.
+use Rattle.std.specs.Prelude.{if◌then◌else◌}
 use mathlib.Core.Path.{◌≡◌, refl, sym, ap, ◌∙◌}
 use mathlib.Core.Bool.{Bool, true, false, not, ◌||◌}
 use mathlib.Core.List.{List, [], ◌∷◌, map}
@@ -12,7 +13,7 @@ use lib.IntN.{pos, negsuc}
 use lib.ListN.{length, get_or, length-map}
 use borrow.Author.Tests.{eq-eqb, ne_eqb, eqb-true, leb-false, lt-ltb, le-ltb}
 use Rattle.rules.specs.declared.Result.TheVariants.{Says}
-use Rattle.rules.specs.Words.{if◌then◌else◌, among}
+use Rattle.rules.specs.Words.{among}
 use Rattle.rules.specs.Numbers.{base_slots, base_customers, top}
 use Rattle.rules.specs.Machine.{Process, living, child_of, lowest_free, birth}
 use Rattle.rules.specs.Answers.{giving, bearing, plain}

@@ -1,5 +1,6 @@
 -- Who ends by call −2, over tables alone.
 -- Assumes nothing.
+use Rattle.std.specs.Prelude.{cond, if◌then◌else◌}
 use mathlib.Core.Path.{◌≡◌, refl, sym, ap, ◌∙◌}
 use mathlib.Core.Bool.{Bool, true, false, ◌&&◌, ◌||◌}
 use mathlib.Core.List.{List, [], ◌∷◌}
@@ -10,10 +11,9 @@ use lib.Dec.{eqb}
 use lib.IntN.{pos, negsuc}
 use lib.ListN.{get_or}
 use borrow.Author.Tests.{eq-eqb, ne_eqb, eqb-true, eqb-false}
-use Rattle.rules.specs.declared.Action.TheVariants.{Nothing}
 use Rattle.rules.specs.declared.Result.TheVariants.{Silent, Says}
 use Rattle.rules.specs.declared.Answer.{Answer}
-use Rattle.rules.specs.Words.{if◌then◌else◌, first, those, any, All}
+use Rattle.rules.specs.Words.{first, those, any, All}
 use Rattle.rules.proofs.Cases.{or_true, and_left, and_intro}
 use Rattle.rules.specs.Numbers.{base_slots}
 use Rattle.rules.specs.Machine as book
@@ -42,13 +42,13 @@ abbrev whom : ℕ → (Process → Bool) → Process → Bool
 whom n u q = named n q && u q
 
 -- who is first of those with the id that pass has the id
-by_id {κ} : {B : Type κ} (f : ℕ → B) (none : B) (n : ℕ) (u : Process → Bool) (ps : List Process) → first (those (whom n u) ps) none (λ q. f q.id) ≡ (if any (whom n u) ps then f n else none)
+by_id {κ} : {B : Type κ} (f : ℕ → B) (none : B) (n : ℕ) (u : Process → Bool) (ps : List Process) → first (those (whom n u) ps) none (λ q. f q.id) ≡ (cond (any (whom n u) ps) (f n) none)
 unfolding named
 by_id f none n u [] = refl
 by_id f none n u (p ∷ ps) = go (whom n u p) refl (by_id f none n u ps)
   where
-    go : (b : Bool) → whom n u p ≡ b → first (those (whom n u) ps) none (λ q. f q.id) ≡ (if any (whom n u) ps then f n else none)
-        → first (if b then p ∷ those (whom n u) ps else those (whom n u) ps) none (λ q. f q.id) ≡ (if b || any (whom n u) ps then f n else none)
+    go : (b : Bool) → whom n u p ≡ b → first (those (whom n u) ps) none (λ q. f q.id) ≡ (cond (any (whom n u) ps) (f n) none)
+        → first (cond b (p ∷ those (whom n u) ps) (those (whom n u) ps)) none (λ q. f q.id) ≡ (cond (b || any (whom n u) ps) (f n) none)
     go true e ih = ap f (sym (eqb-true n p.id (and_left (eqb n p.id) (u p) e)))
     go false e ih = ih
 

@@ -1,9 +1,10 @@
 -- The ten calls by their codes: the service that each names.
 -- Assumes nothing.
+use Rattle.std.specs.Prelude.{if◌then◌else◌}
 use mathlib.Core.Path.{◌≡◌, refl, ap}
 use mathlib.Core.Bool.{Bool, true, false}
 use mathlib.Core.List.{List, [], ◌∷◌}
-use Prim.Native.Nat.{ℕ, zero, suc, ◌-◌, ◌<◌, ◌≤◌}
+use Prim.Native.Nat.{ℕ, zero, suc, ◌<◌, ◌≤◌}
 use native.Mathlib.Nat.{le_of_suc-le-suc}
 use native.Mathlib.Omega.{arith}
 use lib.Dec.{ltb}
@@ -12,7 +13,6 @@ use lib.ListN.{length, get_or}
 use borrow.Author.Tests.{ltb-false}
 use Rattle.rules.specs.declared.Mode.TheVariants.{User, Kernel}
 use Rattle.rules.specs.declared.Cause.TheVariants.{General}
-use Rattle.rules.specs.Words.{if◌then◌else◌}
 use Rattle.rules.specs.Numbers.{base_slots}
 use Rattle.rules.specs.Rules.{Service, service, services, trap, trapped, pass_up_or_die, call}
 use Rattle.tables.specs.declared.Tables.{Tables}

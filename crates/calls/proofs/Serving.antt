@@ -1,5 +1,6 @@
 -- P, V, I/O, a tick and a device's interrupt, over machines alone.
 -- Assumes nothing.
+use Rattle.std.specs.Prelude.{if◌then◌else◌}
 use mathlib.Core.Path.{◌≡◌, refl, sym, ap, ap₂, ◌∙◌}
 use mathlib.Core.Bool.{Bool, true, false}
 use mathlib.Core.List.{List, [], ◌∷◌, map, append-nil}
@@ -12,7 +13,7 @@ use borrow.Author.Tests.{lt-ltb, le-ltb, eq-eqb, ne_eqb}
 use Rattle.rules.specs.declared.Line.{Line}
 use Rattle.rules.specs.declared.Line.TheVariants.{Semaphore, Device}
 use Rattle.rules.specs.declared.Cause.TheVariants.{General}
-use Rattle.rules.specs.Words.{if◌then◌else◌, first, those, front, without}
+use Rattle.rules.specs.Words.{first, those, front, without}
 use Rattle.rules.specs.Numbers.{base_sems, sub_devices, top}
 use Rattle.rules.specs.Machine as book
 use Rattle.rules.specs.Machine.{Process, Waiter, with_places, with_ready, joined, with_sem, at, line, block, wake}

@@ -1,4 +1,6 @@
 // "Calls, kernel mode only": the ten services, each of whoever runs.
+#![tactic(auto)]
+
 ghost use Rattle.std.specs.Prelude.{◌≡◌, ◌<◌};
 ghost use Rattle.rules.specs.Numbers.{base_slots};
 ghost use Rattle.rules.specs.Tables.{Sound};

@@ -1,5 +1,6 @@
 -- Whose turn it is, by how many are in each line and the count of four.
 -- Assumes nothing.
+use Rattle.std.specs.Prelude.{if◌then◌else◌}
 use mathlib.Core.Path.{◌≡◌, refl, sym, ap, ◌∙◌}
 use mathlib.Core.Bool.{true, false, true≢false}
 use mathlib.Core.List.{List, [], ◌∷◌}
@@ -8,7 +9,7 @@ use native.Mathlib.Omega.{arith}
 use lib.Dec.{leb}
 use lib.ListN.{length}
 use borrow.Author.Tests.{leb-false}
-use Rattle.rules.specs.Words.{if◌then◌else◌, first}
+use Rattle.rules.specs.Words.{first}
 use Rattle.rules.specs.Numbers.{most_in_a_row}
 use Rattle.rules.specs.Machine.{Process, low_turn, counted}
 

@@ -1,4 +1,6 @@
 // 02, (vi), alarms first: who is high, and whose turn it is.
+#![tactic(auto)]
+
 ghost use Rattle.std.specs.Prelude.{◌≡◌, List, length};
 ghost use Rattle.rules.specs.Machine.{Process, high_by, low_turn, counted};
 ghost use Rattle.choices.specs.Lines.{of_line};

@@ -52,7 +52,7 @@ ended number now values ceilings es ok =
     some_customer (c ∷ cs) h = omega arith
 
 -- the laws, of what was said and of the machine at the end; those of one event, of whatever event comes next (`next`,
--- which `next_event` says of the code's own outcome)
+-- which `next_event` of proofs/Next says of the code's own outcome)
 pub record Lawful (number now : ℕ) (values ceilings : List ℕ) (es : List Arrival) (said : List Answer) (end : book.Machine) : Type 0 where
   pub tables : Rests base_slots (length values) (length ceilings) number end
   pub ids : Ids (beginning number now) es said end
@@ -95,15 +95,6 @@ demand_3 number now values ceilings es s rs ok t f =
 abbrev pub outcome : Answered → Outcome
 outcome r = record { after = view r.machine; answer = r.answer }
 
--- EVERY LAW OF ONE EVENT, OF THE CODE: after any events, whatever event x comes next at whatever processor, of the
--- answer that the code gives to it and of the machine that it hands back
-pub next_event : (number now : ℕ) (values ceilings : List ℕ) (es : List Arrival) (x : Arrival) (s : Started) (rs : List Answered) (r : Answered)
-    → start_refusal base_slots number values ceilings ≡ 0 → Starts now values ceilings number s → Follows s.machine es rs → Answers x.processor x.event (after s.machine rs) r
-    → Next values ceilings (beginning number now) es (told rs) (view (after s.machine rs)) x (outcome r)
-next_event number now values ceilings es x s rs r ok t f a =
-    subst (Next values ceilings (beginning number now) es (told rs) (view (after s.machine rs)) x) a.seen
-    ((demand_3 number now values ceilings es s rs ok t f).next x)
-
 -- the machines that the code hands back one after the other
 abbrev pub machines : List Answered → List book.Machine
 machines rs = map (λ r. view r.machine) rs
@@ -135,7 +126,8 @@ below_ceiling_granted number now k reading a1 a2 a3 values ceilings es s rs r ok
     let x : Arrival = record { processor = k; event = create_call reading a1 a2 a3 } in
     let c = childs_customer (turned k (past (beginning number now) es (told rs))) a2 in
     let issued = length (ids_issued (beginning number now) es (told rs)) in
-    (((next_event number now values ceilings es x s rs r ok t f a).done taken).granted_exactly reading a1 a2 a3 refl).exactly
+    let next = subst (Next values ceilings (beginning number now) es (told rs) (view (after s.machine rs)) x) a.seen ((demand_3 number now values ceilings es s rs ok t f).next x) in
+    ((next.done taken).granted_exactly reading a1 a2 a3 refl).exactly
     ∙ and_intro _ _ (lt-ltb (living_of c (turn k (view (after s.machine rs)))) (get_or ceilings c 0) below) (lt-ltb issued top last)
 
 -- REFUSED STARTS, of the code: the number, the machine beside it, an answer of 1 to every event, and the machine

@@ -1,9 +1,8 @@
 -- An event at a processor, over tables alone: there is none, or the machine turns to it and back.
 -- Assumes nothing.
-use Rattle.std.proofs.Common.{◌≡◌, ℕ, zero, suc, ◌<◌, ◌≤◌, Bool, true, false, ltb, sym, refl, ap, ◌∙◌, subst, ap₂, arith, ltb-false, ltb-true, lt-ltb}
+use Rattle.std.proofs.Common.{◌≡◌, ℕ, zero, suc, ◌<◌, ◌≤◌, Bool, true, false, ltb, sym, refl, ap, ◌∙◌, subst, ap₂, arith, ltb-false, ltb-true, lt-ltb, if◌then◌else◌}
 use Rattle.rules.specs.declared.Event.{Event}
 use Rattle.rules.specs.declared.Answer.{Answer}
-use Rattle.rules.specs.Words.{if◌then◌else◌}
 use Rattle.rules.proofs.Cases.{or_true}
 use Rattle.rules.specs.Numbers.{base_slots, base_sems, base_customers, over, no_such_processor}
 use Rattle.rules.specs.Machine as book

@@ -1,10 +1,9 @@
 -- What events make of a start obeys the rule; and the least start ends its id 1 at once.
 -- Assumes nothing.
-use Rattle.std.proofs.Common.{◌≡◌, ℕ, zero, suc, ◌<◌, ◌≤◌, List, length, get_or, negsuc, sym, refl, ap, ◌∙◌, subst, arith}
+use Rattle.std.proofs.Common.{◌≡◌, ℕ, zero, suc, ◌<◌, ◌≤◌, List, length, get_or, negsuc, sym, ap, ◌∙◌, subst, arith}
 use Rattle.rules.specs.declared.Mode.TheVariants.{Kernel}
 use Rattle.rules.specs.declared.Event.TheVariants.{Call}
 use Rattle.rules.specs.declared.Arrival.{Arrival}
-use Rattle.rules.specs.Words.{sum}
 use Rattle.rules.specs.Numbers.{base_slots, base_sems, base_customers, top}
 use Rattle.rules.specs.Starts.{too_large, not_allowed, bad_number, start_refusal, started}
 use Rattle.rules.specs.Machine.{processors, turn, fresh}

@@ -1,11 +1,11 @@
 -- An event, over machines alone: what the running process does, each refusal, and what an accepted event comes to.
 -- Assumes nothing.
-use Rattle.std.proofs.Common.{◌≡◌, ℕ, zero, suc, ◌+◌, ◌-◌, ◌<◌, ◌≤◌, Bool, true, false, ◌&&◌, ltb, leb, List, [], ◌∷◌, map, sym, refl, ap, ◌∙◌, subst, ap₂, arith, ltb-false, ltb-true, le-ltb, lt-ltb, ne_eqb, le-leb, leb-false}
+use Rattle.std.proofs.Common.{◌≡◌, ℕ, zero, suc, ◌+◌, ◌<◌, ◌≤◌, Bool, true, false, ◌&&◌, ltb, leb, List, [], ◌∷◌, map, sym, refl, ap, ◌∙◌, subst, ap₂, arith, ltb-false, ltb-true, le-ltb, lt-ltb, ne_eqb, le-leb, leb-false, if◌then◌else◌}
 use borrow.Author.Tests.{lt-leb}
 use Rattle.rules.specs.declared.Event.{Event}
 use Rattle.rules.specs.declared.Cause.TheVariants.{Tlb, General}
 use Rattle.rules.specs.declared.Answer.{Answer}
-use Rattle.rules.specs.Words.{if◌then◌else◌, first}
+use Rattle.rules.specs.Words.{first}
 use Rattle.rules.specs.Numbers.{base_slots, gap_limit, time_limit, over, clock_back, time_full, nobody_runs, no_such_line, no_such_code}
 use Rattle.rules.specs.Machine.{Process, back, gap, charge}
 use Rattle.rules.specs.Answers.{Outcome, plain, refusing}

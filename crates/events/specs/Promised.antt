@@ -1,8 +1,7 @@
 -- What an event promises.
-use Rattle.std.specs.Prelude.{◌≡◌, ℕ, ◌≢◌}
+use Rattle.std.specs.Prelude.{◌≡◌, ℕ, ◌≢◌, if◌then◌else◌}
 use Rattle.rules.specs.declared.Event.{Event}
 use Rattle.rules.specs.declared.Arrival.{Arrival}
-use Rattle.rules.specs.Words.{if◌then◌else◌}
 use Rattle.rules.specs.Numbers.{base_slots, base_sems, base_customers, no_such_processor}
 use Rattle.rules.specs.Machine as book
 use Rattle.rules.specs.Machine.{turn}

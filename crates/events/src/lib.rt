@@ -1,4 +1,6 @@
 // One event: "tables and one event go in; new tables and the next action come out".
+#![tactic(auto)]
+
 ghost use Rattle.std.specs.Prelude.{◌≡◌, false, ◌&&◌, nat_le};
 ghost use Rattle.rules.specs.Tables.{Sound};
 ghost use Rattle.rules.specs.Numbers.{base_slots, base_sems, base_customers};

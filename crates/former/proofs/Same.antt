@@ -2,6 +2,7 @@
 -- Whatever the start and the events, a machine of one processor gives them, at processor 0, the answers that the former
 -- rule book gave, and comes to the same machine; the new mask is 0. The two theorems stand last. They go rule by rule,
 -- one or two lines each: with no other processor, every definition that (xiii) changed computes to the former one.
+use Rattle.std.specs.Prelude.{if◌then◌else◌}
 use mathlib.Core.Path.{◌≡◌, refl, ◌∙◌, ap, ap₂}
 use mathlib.Core.Bool.{Bool, true, false}
 use mathlib.Core.List.{List, [], ◌∷◌}
@@ -18,7 +19,7 @@ use Rattle.rules.specs.declared.Line.TheVariants.{Semaphore, Device, PseudoClock
 use Rattle.rules.specs.declared.Cause.{Cause}
 use Rattle.rules.specs.declared.Cause.TheVariants.{Tlb, General}
 use Rattle.rules.specs.declared.Answer.{Answer}
-use Rattle.rules.specs.Words.{if◌then◌else◌, first, those}
+use Rattle.rules.specs.Words.{first, those}
 use Rattle.rules.specs.Numbers.{sub_devices}
 use Rattle.rules.specs.Starts.{bad_number, start_refusal}
 use Rattle.rules.specs.Machine.{Process, Machine, living, line, nucleus_waits, back, block, dispatch, wake, wake_all, family, family_of, kill, lowest_free, child_of, birth, gap, charge, turn, fresh}

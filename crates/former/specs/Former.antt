@@ -4,7 +4,7 @@
 -- It is here for one purpose: proofs/Same shows that one processor gets the answers of these rules, whatever the start
 -- and the events. Nothing else reads it. What speaks of no machine (words, waiting lines, the choosing between two
 -- lines, families, the parts of an answer, the refusals that look at the event alone) is the rule book's own.
-use Rattle.std.specs.Prelude.{Bool, true, false, not, ◌&&◌, ◌||◌, List, [], ◌∷◌, ◌++◌, map, ℕ, suc, ◌+◌, ◌-◌, ◌%◌, ◌^◌, eqb, leb, ltb, ℤ, pos, negsuc, length, get_or, set, replicate}
+use Rattle.std.specs.Prelude.{Bool, true, false, not, ◌&&◌, ◌||◌, List, [], ◌∷◌, ◌++◌, map, ℕ, suc, ◌+◌, ◌-◌, ◌%◌, ◌^◌, eqb, leb, ltb, ℤ, pos, negsuc, length, get_or, set, replicate, if◌then◌else◌}
 use Rattle.rules.specs.declared.Mode.{Mode}
 use Rattle.rules.specs.declared.Mode.TheVariants.{User, Kernel}
 use Rattle.rules.specs.declared.Event.{Event}
@@ -16,7 +16,7 @@ use Rattle.rules.specs.declared.Cause.TheVariants.{Tlb, General}
 use Rattle.rules.specs.declared.Action.{Action}
 use Rattle.rules.specs.declared.Action.TheVariants.{CarryOn, Run, Wait, Halt, Panic, PassUp}
 use Rattle.rules.specs.declared.Answer.{Answer}
-use Rattle.rules.specs.Words.{if◌then◌else◌, first, those, front, rest, without, any, sum, many}
+use Rattle.rules.specs.Words.{first, those, front, rest, without, any, sum, many}
 use Rattle.rules.specs.Numbers.{top, sub_devices, gap_limit, time_limit, over, clock_back, time_full, nobody_runs, no_such_line, no_such_code, value_too_large, ceilings_not_allowed}
 use Rattle.rules.specs.Starts.{too_large, not_allowed}
 use Rattle.rules.specs.Machine.{Process, Waiter, Status, On, Halted, Panicked, longer, nucleus, is_high, low_turn, next_of, counted, at, family, lowest, child_of}

@@ -1,5 +1,7 @@
 // Who belongs to whom, by the rows alone: families by their parents, and customers by their ceilings. Rows are arrays
 // by slot: ids (0 is free), the parent's slot and one more (0 is none), customers.
+#![tactic(auto)]
+
 ghost use Rattle.std.specs.Prelude.{◌≡◌, ◌<◌, length};
 ghost use Rattle.rules.specs.Numbers.{base_slots, base_customers};
 ghost use Rattle.kin.specs.Families.{Kin, kin, parent_at, Marks, may_name_at, at_ceiling};

@@ -1,10 +1,11 @@
 -- What a choice makes of the lists: four ways, and what follows of sums, of what holds for each, and of each line.
+use Rattle.std.specs.Prelude.{if◌then◌else◌}
 use mathlib.Core.Path.{◌≡◌, refl}
 use mathlib.Core.Bool.{Bool, true, false}
 use mathlib.Core.List.{List, [], ◌∷◌}
 use Prim.Native.Nat.{ℕ, suc, ◌+◌}
 use native.Mathlib.Omega.{arith}
-use Rattle.rules.specs.Words.{if◌then◌else◌, first, rest, sum, All}
+use Rattle.rules.specs.Words.{first, rest, sum, All}
 use Rattle.rules.proofs.Cases.{first_cases}
 use Rattle.rules.specs.Machine.{Process, low_turn, next_of}
 use Rattle.rules.proofs.Walk.{none_next}

@@ -1,4 +1,5 @@
 -- Why each processor's idle time is the sum of the accepted gaps there when nobody ran on it.
+use Rattle.std.specs.Prelude.{if◌then◌else◌}
 use mathlib.Core.Path.{◌≡◌, refl, sym, ◌∙◌, ap}
 use mathlib.Core.Logic.{◌≢◌}
 use mathlib.Core.Bool.{Bool, true, false}
@@ -10,7 +11,6 @@ use lib.ListN.{length, length-map, get_or, replicate}
 use lib.Seq.{get_or-set_other}
 use borrow.Author.Tests.{eqb-true, eqb-false, ltb-true, ltb-false}
 use Rattle.rules.specs.declared.Arrival.{Arrival}
-use Rattle.rules.specs.Words.{if◌then◌else◌}
 use Rattle.rules.specs.Numbers.{over, no_such_processor}
 use Rattle.rules.specs.Machine.{Seat, Machine, blank, processors, here, turn, idle_from, fresh}
 use Rattle.rules.specs.Answers.{Outcome}

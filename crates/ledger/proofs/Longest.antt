@@ -1,5 +1,6 @@
 -- How long one waits (specs/Waits), worked out by computing: the bounds are reached, of high ones the sharper one with 0
 -- to 4 before them, of low ones theirs with 0 and 1.
+use Rattle.std.specs.Prelude.{if◌then◌else◌}
 use mathlib.Core.Path.{◌≡◌, refl}
 use mathlib.Core.Bool.{Bool}
 use mathlib.Core.List.{List, [], ◌∷◌, ◌++◌, map}
@@ -7,7 +8,6 @@ use Prim.Native.Nat.{ℕ, zero, suc}
 use lib.ListN.{length, replicate}
 use Rattle.rules.specs.declared.Event.{Event}
 use Rattle.rules.specs.declared.Arrival.{Arrival}
-use Rattle.rules.specs.Words.{if◌then◌else◌}
 use Rattle.rules.specs.Numbers.{base_slots, base_sems}
 use Rattle.rules.specs.Rules.{start, all_at, answers, run, rule_book}
 use Rattle.rules.proofs.Alarms.{high, low, yields, ends, tick}

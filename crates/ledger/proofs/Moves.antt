@@ -1,4 +1,5 @@
 -- Why an accepted event moves just whom `move` says, and the next is then chosen where nobody runs.
+use Rattle.std.specs.Prelude.{if◌then◌else◌}
 use mathlib.Core.Path.{◌≡◌, refl, sym, ◌∙◌, ap, ap₂, subst}
 use mathlib.Core.Bool.{Bool, true, false, not, ◌&&◌, ◌||◌, true≢false}
 use mathlib.Core.List.{List, [], ◌∷◌, ◌++◌, map, append-nil}
@@ -21,11 +22,11 @@ use Rattle.rules.specs.declared.Action.{Action}
 use Rattle.rules.specs.declared.Action.TheVariants.{Wait, Halt, Panic, PassUp}
 use Rattle.rules.specs.declared.Part.TheVariants.{Absent}
 use Rattle.rules.specs.declared.Answer.{Answer}
-use Rattle.rules.specs.Words.{if◌then◌else◌, first, those, any, front, rest, without, count, Single}
+use Rattle.rules.specs.Words.{first, those, any, front, rest, without, count, Single}
 use Rattle.rules.specs.Numbers.{top, sub_devices}
 use Rattle.rules.proofs.Cases.{if_cases, first_cases, single_cases, get_or_past, and_left}
 use Rattle.rules.proofs.Lines.{those_append, those_those}
-use Rattle.rules.specs.Machine.{Process, Waiter, Machine, Status, Halted, Panicked, with_sem, with_status, is_high, next_line, living, living_of, ceiling, nucleus_waits, at, line, back, block, dispatch, wake, wake_all, named, family, kill, lowest_free, child_of, newborn, birth, longer, gap, charge}
+use Rattle.rules.specs.Machine.{Process, Waiter, Machine, Status, Halted, Panicked, with_sem, with_status, is_high, next_line, living, living_of, ceiling, at, line, back, block, dispatch, wake, wake_all, named, family, kill, lowest_free, child_of, newborn, birth, longer, gap, charge}
 use Rattle.rules.proofs.Living.{sum_charged_same}
 use Rattle.rules.specs.Answers.{Outcome, plain, mask, giving, bearing, ending, waking, naming}
 use Rattle.rules.specs.Rules

@@ -1,18 +1,19 @@
 -- Why the plain tables of numbers are the rule book's: each number below a bound is looked up, and past it there is
 -- none.
-use mathlib.Core.Path.{◌≡◌, refl, sym, ◌∙◌, ap, ap₂, subst}
-use mathlib.Core.Bool.{Bool, true, false, not, ◌&&◌, ◌||◌, true≢false}
+use Rattle.std.specs.Prelude.{if◌then◌else◌}
+use mathlib.Core.Path.{◌≡◌, refl, ◌∙◌, ap, ap₂}
+use mathlib.Core.Bool.{Bool, true, false, not, ◌&&◌, ◌||◌}
 use mathlib.Core.List.{List, [], ◌∷◌, ◌++◌, map}
 use Prim.Native.Nat.{ℕ, zero, suc, ◌+◌, ◌-◌, ◌*◌, ◌/◌, ◌%◌, ◌≤◌, ◌<◌}
 use native.Mathlib.Omega.{arith}
 use lib.Dec.{eqb, leb, ltb}
 use lib.ListN.{get_or}
-use borrow.Author.Tests.{eqb-true, eqb-false, ne_eqb, ltb-true, ltb-false, lt-ltb, le-ltb, leb-true, leb-false, le-leb, lt-leb}
+use borrow.Author.Tests.{eqb-true, eqb-false, ne_eqb, ltb-true, ltb-false, lt-ltb, leb-true, leb-false}
 use Rattle.rules.specs.declared.Event.{Event}
 use Rattle.rules.specs.declared.Event.TheVariants.{Call, Interrupt, Exception}
 use Rattle.rules.specs.declared.Line.{Line}
 use Rattle.rules.specs.declared.Line.TheVariants.{Semaphore, Device, PseudoClock}
-use Rattle.rules.specs.Words.{if◌then◌else◌, first, rest, any, among, All}
+use Rattle.rules.specs.Words.{first, rest, any, among, All}
 use Rattle.rules.specs.Numbers.{sub_devices}
 use Rattle.rules.specs.Machine.{Waiter, Machine, nucleus, nucleus_waits}
 use Rattle.rules.specs.Rules.{bad_line, bad_code, lowest_bit, sub_device}
@@ -21,7 +22,7 @@ use Rattle.rules.proofs.Sound.{or_left, or_right}
 use Rattle.ledger.specs.History.{slots_in}
 use Rattle.ledger.specs.Ids.{counting}
 use Rattle.ledger.specs.Ranges.{byte}
-use Rattle.ledger.specs.Numbered.{trap_codes, tlb_codes, code_refused, lines_taken, line_refused, disk_numbers, transmission_numbers, receipt_numbers, all_sub_devices, pending, serves, nucleus_line}
+use Rattle.ledger.specs.Numbered.{trap_codes, tlb_codes, code_refused, lines_taken, line_refused, disk_numbers, transmission_numbers, receipt_numbers, all_sub_devices, serves, nucleus_line}
 use Rattle.ledger.specs.Scheduling.{nucleus_told}
 use Rattle.ledger.proofs.Ranges.{bit_most, bytes, seven, first_byte}
 

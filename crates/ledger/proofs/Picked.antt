@@ -1,4 +1,5 @@
 -- Those whose number is told, where no two have the same number: just those who are meant. And the slots of a mask.
+use Rattle.std.specs.Prelude.{if◌then◌else◌}
 use mathlib.Core.Path.{◌≡◌, refl, sym, ◌∙◌, ap}
 use mathlib.Core.Bool.{Bool, true, false, not, true≢false}
 use mathlib.Core.List.{List, [], ◌∷◌, map}
@@ -6,7 +7,7 @@ use Prim.Native.Nat.{ℕ, ◌+◌, ◌≤◌, ◌^◌}
 use native.Mathlib.Omega.{arith}
 use lib.Dec.{eqb, leb, ltb}
 use borrow.Author.Tests.{eq-eqb, le-leb, lt-leb}
-use Rattle.rules.specs.Words.{if◌then◌else◌, those, front, without, any, among, sum, count, many, All}
+use Rattle.rules.specs.Words.{those, front, without, any, among, sum, count, many, All}
 use Rattle.rules.proofs.Cases.{All-both}
 use Rattle.rules.proofs.Sums.{sum_over, sum_split, sum_front}
 use Rattle.rules.proofs.Sound.{eqb_swap}

@@ -1,5 +1,6 @@
 -- Why the lines and the count that events and answers tell are the machine's, and who is run is the one whose turn it
 -- is.
+use Rattle.std.specs.Prelude.{if◌then◌else◌}
 use mathlib.Core.Path.{◌≡◌, refl, sym, ◌∙◌, ap, ap₂, subst}
 use mathlib.Core.Bool.{Bool, true, false, not, ◌||◌, true≢false}
 use mathlib.Core.List.{List, [], ◌∷◌, ◌++◌, map, map-append, append-nil}
@@ -18,7 +19,7 @@ use Rattle.rules.specs.declared.Action.{Action}
 use Rattle.rules.specs.declared.Action.TheVariants.{CarryOn, Run, Wait, Halt, Panic, PassUp, Nothing}
 use Rattle.rules.specs.declared.Part.{Part}
 use Rattle.rules.specs.declared.Answer.{Answer}
-use Rattle.rules.specs.Words.{if◌then◌else◌, first, those, front, rest, without, any, among, sum, count, many, Single, All}
+use Rattle.rules.specs.Words.{first, those, front, rest, without, any, among, sum, count, many, Single, All}
 use Rattle.rules.specs.Numbers.{most_in_a_row}
 use Rattle.rules.proofs.Cases.{if_cases, first_cases, get_or_at, All-both, All-each, All-left, All-right, All-those, All-without, All-under}
 use Rattle.rules.proofs.Sums.{sum_over, sum_split, sum_front}

@@ -1,4 +1,5 @@
 -- Why everything kept and answered is in range where the words and bytes of the events are.
+use Rattle.std.specs.Prelude.{if◌then◌else◌}
 use mathlib.Core.Path.{◌≡◌, refl, sym, subst}
 use mathlib.Core.Bool.{Bool, true, false, ◌&&◌, ◌||◌}
 use mathlib.Core.List.{List, [], ◌∷◌, map}
@@ -23,11 +24,11 @@ use Rattle.rules.specs.declared.Result.{Result}
 use Rattle.rules.specs.declared.Part.{Part}
 use Rattle.rules.specs.declared.Part.TheVariants.{Absent, Number}
 use Rattle.rules.specs.declared.Answer.{Answer}
-use Rattle.rules.specs.Words.{if◌then◌else◌, first, those, any, sum, count, many, All}
+use Rattle.rules.specs.Words.{first, those, any, sum, count, many, All}
 use Rattle.rules.specs.Numbers.{time_limit, sub_devices}
 use Rattle.rules.proofs.Cases.{if_cases, first_cases, All-map, All-over, get_or_cases}
 use Rattle.rules.proofs.Sums.{sum_over, sum_front}
-use Rattle.rules.specs.Machine.{Process, Seat, Machine, living, next_line, at, line, nucleus_waits, family, rid_of, longer, child_of, newborn, gap, charge, blank, processors, here, turn, idle_from, fresh}
+use Rattle.rules.specs.Machine.{Process, Seat, Machine, living, next_line, line, family, rid_of, longer, child_of, newborn, gap, charge, blank, processors, here, turn, idle_from, fresh}
 use Rattle.rules.proofs.Living.{living_sum, sum_killed, each_charged, all_running, fresh_living}
 use Rattle.rules.specs.Answers.{Outcome, plain, mask, doing, giving, processors_of, left_idle}
 use Rattle.rules.specs.Rules

@@ -1,23 +1,23 @@
 -- Why the target that births and answers tell is the one whom the event ends.
-use mathlib.Core.Path.{◌≡◌, refl, sym, ◌∙◌, ap, ap₂, subst}
+use Rattle.std.specs.Prelude.{if◌then◌else◌}
+use mathlib.Core.Path.{◌≡◌, refl, sym, ◌∙◌, ap, ap₂}
 use mathlib.Core.Bool.{Bool, true, false, not, ◌&&◌, ◌||◌}
 use mathlib.Core.List.{List, [], ◌∷◌}
-use Prim.Native.Nat.{ℕ, suc, ◌+◌, ◌-◌, ◌≤◌}
+use Prim.Native.Nat.{ℕ, suc, ◌+◌, ◌≤◌}
 use native.Mathlib.Omega.{arith}
-use lib.Dec.{eqb, leb, ltb}
+use lib.Dec.{eqb, leb}
 use lib.IntN.{pos, negsuc}
 use lib.ListN.{length}
-use borrow.Author.Tests.{eqb-true, leb-true, leb-false, le-leb, lt-leb}
+use borrow.Author.Tests.{eqb-true, leb-true, leb-false, lt-leb}
 use Rattle.rules.specs.declared.Mode.TheVariants.{User, Kernel}
 use Rattle.rules.specs.declared.Event.{Event}
 use Rattle.rules.specs.declared.Event.TheVariants.{Call, Interrupt, Exception}
-use Rattle.rules.specs.Words.{if◌then◌else◌, first, those, any, among, Single, All}
-use Rattle.rules.specs.Numbers.{top, sub_devices}
+use Rattle.rules.specs.Words.{first, those, any, among, All}
 use Rattle.rules.specs.Machine.{Process, Machine, living, family}
 use Rattle.rules.proofs.Living.{all_running}
 use Rattle.rules.specs.Rules.{value, may_name}
 use Rattle.rules.specs.Tables.{slots_of}
-use Rattle.ledger.specs.History.{Birth, Past, holder, chain, customer_by, handle_by}
+use Rattle.ledger.specs.History.{Birth, Past, holder, chain}
 use Rattle.ledger.specs.Places.{has, alive}
 use Rattle.ledger.specs.Kills.{bad_call, passed_up, terminates, valid_name, target_by, target}
 use Rattle.ledger.specs.Targets.{Standing, traps, goes_up, names, allowed, ends_by, target_told}
@@ -104,4 +104,7 @@ target_same st h m e s k =
     go : (rs : List Process) → All (Known bs) rs → All (Belongs bs) rs → All (Handled bs) rs → first (slots_of rs) [] (λ s. ends_by st bs e (holder s bs)) ≡ first rs [] (target_by e m)
     go [] a b c = refl
     go (p ∷ ps) a b c =
-        rw (a.0.0, up_told st m s e, c.0, names_told e p, those_one _ (valid_name p m) (terminates e p) (valid p b.0))
+        ap (λ (n : ℕ). ends_by st bs e n) a.0.0
+        ∙ rw (up_told st m s e, c.0, names_told e p)
+        (ap (λ (l : List ℕ). if passed_up e m then (if eqb p.handle 0 then p.id ∷ [] else []) else l)
+        (those_one (λ n. st.alive n && allowed bs p.id n) (valid_name p m) (terminates e p) (valid p b.0)))

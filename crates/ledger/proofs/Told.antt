@@ -1,4 +1,5 @@
 -- Why what births and sums tell is what the machine keeps, and what −6, −8 and −9 answer.
+use Rattle.std.specs.Prelude.{if◌then◌else◌}
 use mathlib.Core.Path.{◌≡◌, refl, sym, ◌∙◌, ap, ap₂, subst}
 use mathlib.Core.Bool.{Bool, true, false, true≢false}
 use mathlib.Core.List.{List, [], ◌∷◌}
@@ -11,14 +12,14 @@ use Rattle.rules.specs.declared.Mode.TheVariants.{User, Kernel}
 use Rattle.rules.specs.declared.Event.{Event}
 use Rattle.rules.specs.declared.Event.TheVariants.{Call, Interrupt, Exception}
 use Rattle.rules.specs.declared.Result.TheVariants.{Says}
-use Rattle.rules.specs.Words.{if◌then◌else◌, first, Single, All}
+use Rattle.rules.specs.Words.{first, Single, All}
 use Rattle.rules.specs.Machine.{Process, Machine, living, longer, gap, charge}
 use Rattle.rules.proofs.Living.{all_running}
 use Rattle.rules.specs.Answers.{Outcome}
 use Rattle.rules.specs.Rules
 use Rattle.rules.specs.Rules.{step, refusal, service}
 use Rattle.rules.proofs.Laws.{accepts, passed}
-use Rattle.ledger.specs.History.{Past, running_id, gap_of, chain, handle_by}
+use Rattle.ledger.specs.History.{Past, running_id, chain, handle_by}
 use Rattle.ledger.specs.Told.{ToldOf, parent_by, time_by, asked, Tells}
 use Rattle.ledger.specs.Customers.{Belongs}
 use Rattle.ledger.proofs.Births.{Known, Ranked, Handled, Linked, caller}

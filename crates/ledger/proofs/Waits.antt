@@ -1,5 +1,6 @@
 -- Why nobody who is ready waits longer: what is left of a wait in the rule book's machine (rules, Waits) is never more
 -- than the choices that the bound still allows, and the answers tell who is run and who ends.
+use Rattle.std.specs.Prelude.{if◌then◌else◌}
 use mathlib.Core.Path.{◌≡◌, refl, sym, ◌∙◌, ap, ap₂, subst}
 use mathlib.Core.Logic.{◌⊎◌, inl, inr}
 use mathlib.Core.Bool.{Bool, true, false, ◌||◌, true≢false}
@@ -14,7 +15,7 @@ use Rattle.rules.specs.declared.Arrival.{Arrival}
 use Rattle.rules.specs.declared.Action.{Action}
 use Rattle.rules.specs.declared.Action.TheVariants.{CarryOn, Run, Wait, Halt, Panic, PassUp, Nothing}
 use Rattle.rules.specs.declared.Answer.{Answer}
-use Rattle.rules.specs.Words.{if◌then◌else◌, first, count, many, All}
+use Rattle.rules.specs.Words.{first, count, many, All}
 use Rattle.rules.specs.Numbers.{most_in_a_row}
 use Rattle.rules.proofs.Cases.{if_cases, or_true, All-left, All-right}
 use Rattle.rules.specs.Machine.{Process, Machine, ready, living, turn}

@@ -1,9 +1,9 @@
 -- CHOOSING (02, (vi)). Who is run is the first of the high line or of the low one, exactly as the sentence says. This
 -- is said of the lines and the count that events and answers tell (History); and those are the machine's.
-use Rattle.std.specs.Prelude.{◌≡◌, false, not, List, [], ◌∷◌, ◌++◌, map, ℕ, leb}
+use Rattle.std.specs.Prelude.{◌≡◌, false, not, List, [], ◌∷◌, ◌++◌, map, ℕ, leb, if◌then◌else◌}
 use Rattle.rules.specs.declared.Event.{Event}
 use Rattle.rules.specs.declared.Answer.{Answer}
-use Rattle.rules.specs.Words.{if◌then◌else◌, first, those, front, rest}
+use Rattle.rules.specs.Words.{first, those, front, rest}
 use Rattle.rules.specs.Numbers.{most_in_a_row}
 use Rattle.rules.specs.Machine.{Process, Waiter, Machine, is_high, low_turn, next_of, counted}
 use Rattle.rules.specs.Tables.{slots_of}

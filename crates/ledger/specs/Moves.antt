@@ -1,6 +1,6 @@
 -- WHO MOVES. What an accepted event does to the places: nobody moves but as one of seven rows says, and then the next
 -- is chosen where nobody runs. So everybody else keeps their place and their order within their line.
-use Rattle.std.specs.Prelude.{◌≡◌, true, false, not, List, [], ◌∷◌, ◌++◌, map, ℕ, eqb, pos, negsuc, get_or}
+use Rattle.std.specs.Prelude.{◌≡◌, true, false, not, List, [], ◌∷◌, ◌++◌, map, ℕ, eqb, pos, negsuc, get_or, if◌then◌else◌}
 use Rattle.rules.specs.declared.Event.{Event}
 use Rattle.rules.specs.declared.Event.TheVariants.{Call, Interrupt, Exception}
 use Rattle.rules.specs.declared.Action.{Action}
@@ -8,7 +8,7 @@ use Rattle.rules.specs.declared.Part.{Part}
 use Rattle.rules.specs.declared.Part.TheVariants.{Absent, Number}
 use Rattle.rules.specs.declared.Line.{Line}
 use Rattle.rules.specs.declared.Line.TheVariants.{Semaphore, Device, PseudoClock}
-use Rattle.rules.specs.Words.{if◌then◌else◌, first, those, front, without}
+use Rattle.rules.specs.Words.{first, those, front, without}
 use Rattle.rules.specs.Machine.{Process, Seat, Machine, at, line, family, family_of, rid_of, lowest_free, child_of, newborn}
 use Rattle.rules.specs.Answers.{Outcome, mask, left_idle}
 use Rattle.rules.specs.Rules.{denied, value, sub_device}

@@ -1,12 +1,12 @@
 -- THE NUMBERS A SECOND TIME, as plain tables: which lines and codes are taken, which sub-device a line serves, which
 -- lines are the nucleus's. They are written from document 01 and not from the rule book; proofs/Numbered says that the
 -- two are the same.
-use Rattle.std.specs.Prelude.{◌≡◌, Bool, true, false, not, List, [], ◌∷◌, ◌++◌, ℕ, ◌-◌, ◌≤◌, ◌<◌, eqb, leb, get_or}
+use Rattle.std.specs.Prelude.{Bool, true, false, not, List, [], ◌∷◌, ◌++◌, ℕ, ◌-◌, eqb, leb, get_or, if◌then◌else◌}
 use Rattle.rules.specs.declared.Event.{Event}
 use Rattle.rules.specs.declared.Event.TheVariants.{Call, Interrupt, Exception}
 use Rattle.rules.specs.declared.Line.{Line}
 use Rattle.rules.specs.declared.Line.TheVariants.{Semaphore, Device, PseudoClock}
-use Rattle.rules.specs.Words.{if◌then◌else◌, first, among}
+use Rattle.rules.specs.Words.{first, among}
 use Rattle.ledger.specs.History.{slots_in}
 
 -- ── Codes ──

@@ -1,12 +1,12 @@
 -- WHOM AN EVENT ENDS, by what is told: by births and answers alone, and no machine is looked at. Who may be named, who
 -- dies of a trap and whether a V is carried out are said here a second time, not cited from the rule book.
-use Rattle.std.specs.Prelude.{Bool, true, false, not, ◌&&◌, ◌||◌, List, [], ◌∷◌, ℕ, suc, ◌+◌, ◌-◌, eqb, leb, ltb, pos, negsuc, length, get_or}
+use Rattle.std.specs.Prelude.{Bool, true, false, not, ◌&&◌, ◌||◌, List, [], ◌∷◌, ℕ, suc, ◌+◌, ◌-◌, eqb, leb, ltb, pos, negsuc, length, get_or, if◌then◌else◌}
 use Rattle.rules.specs.declared.Mode.TheVariants.{User, Kernel}
 use Rattle.rules.specs.declared.Event.{Event}
 use Rattle.rules.specs.declared.Event.TheVariants.{Call, Interrupt, Exception}
 use Rattle.rules.specs.declared.Arrival.{Arrival}
 use Rattle.rules.specs.declared.Answer.{Answer}
-use Rattle.rules.specs.Words.{if◌then◌else◌, first, those, among}
+use Rattle.rules.specs.Words.{first, those, among}
 use Rattle.rules.specs.Numbers.{top, sub_devices}
 use Rattle.ledger.specs.History.{Birth, Past, chain, customer_by, handle_by, holder, v_carried_out, p_got_through, tally}
 use Rattle.ledger.specs.Ids.{ids_issued, ids_ended}

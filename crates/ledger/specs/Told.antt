@@ -1,13 +1,13 @@
 -- WHAT IS TOLD IS SO. What births tell of everyone alive is what the machine keeps of them: their id by their slot,
 -- their ancestors, customer, priority and support handle. And what −6, −8 and −9 answer is what the sums and the births
 -- tell.
-use Rattle.std.specs.Prelude.{◌≡◌, List, [], ◌∷◌, ℕ, suc, ◌+◌, eqb, pos, negsuc}
+use Rattle.std.specs.Prelude.{◌≡◌, List, [], ◌∷◌, ℕ, suc, ◌+◌, eqb, pos, negsuc, if◌then◌else◌}
 use Rattle.rules.specs.declared.Mode.TheVariants.{User, Kernel}
 use Rattle.rules.specs.declared.Event.{Event}
 use Rattle.rules.specs.declared.Event.TheVariants.{Call, Interrupt, Exception}
 use Rattle.rules.specs.declared.Result.TheVariants.{Says}
 use Rattle.rules.specs.declared.Answer.{Answer}
-use Rattle.rules.specs.Words.{if◌then◌else◌, first}
+use Rattle.rules.specs.Words.{first}
 use Rattle.rules.specs.Machine.{Process}
 use Rattle.ledger.specs.History.{Birth, Past, holder, chain, customer_by, priority_by, handle_by, running_id, gap_of}
 

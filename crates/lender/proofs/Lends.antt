@@ -1,14 +1,14 @@
 -- An array in a local, the first elements of which are lent as a `&mut [T]` for a lifetime that the walk makes, and
 -- that is had back whole.
 --     Rest           what the lender keeps meanwhile: its part of the loan, and the elements behind
---     lends-front    the array ∗ what it owns  ⊢ ⇛ ∃ γ. own (the `&κ mut [T]` of its first n elements) ∗ Rest γ
---     front-back     [†κ] ∗ Rest γ ∗ finally γ zs  ⊢ ⇛ the array: zs, and the elements behind as they were
+--     lends_front    the array ∗ what it owns  ⊢ ⇛ ∃ γ. own (the `&κ mut [T]` of its first n elements) ∗ Rest γ
+--     front_back     [†κ] ∗ Rest γ ∗ finally γ zs  ⊢ ⇛ the array: zs, and the elements behind as they were
 use mathlib.Core.Path.{◌≡◌, refl, sym, ◌∙◌, subst}
 use Prim.Native.Nat.{ℕ, ◌≤◌}
 use mathlib.Core.List.{List, [], ◌∷◌, ◌++◌}
 use lib.ListN.{length, take, drop, take-append-drop}
 use seplogic.Ra.Ura.{Ura}
-use seplogic.Ra.TreeShare.{full_share}
+use base.Fraction.{full_share}
 use mir.Syntax.{Ty, Lifetime, ty_array}
 use mir.Val.{Val}
 use base.Logic.{ent, sep, ex, guard}

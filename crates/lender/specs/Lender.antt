@@ -1,6 +1,5 @@
 -- "the desk lends the swap table, one row a frame, to be read and changed where it lies": the side that lends it.
-use Rattle.std.specs.Prelude.{List, [], ◌∷◌, ◌++◌, ℕ, ltb, take, drop, set, replicate}
-use Rattle.rules.specs.Words.{if◌then◌else◌}
+use Rattle.std.specs.Prelude.{List, [], ◌∷◌, ◌++◌, ℕ, ltb, take, drop, set, replicate, if◌then◌else◌}
 use Rattle.pages.specs.declared.Row.{Row}
 use Rattle.pages.specs.declared.Event.{Event}
 use Rattle.pages.specs.declared.Answer.{Answer}

@@ -1,6 +1,8 @@
 // Whoever lends the swap table: it has the rows in an array of its own, lends the first of them to the pager for each
 // event, "to be read and changed where it lies", and has the array back. Public are `fresh`, `event`, `resized` and
 // `with_row`.
+#![tactic(auto)]
+
 ghost use Rattle.std.specs.Prelude.{◌≡◌, ◌++◌, ◌≤◌, take, drop};
 ghost use Rattle.lent.specs.Lent.{Keeping, lent};
 ghost use Rattle.lender.specs.Lender;
@@ -13,20 +15,20 @@ use pages::{Event, FRAMES, Row};
 pub const ROOM: usize = 64;
 
 // The swap table as its owner keeps it: the first `count` of the rows.
-#[derive(Drop)]
+#[derive(Clone, Copy)]
 pub struct SwapTable {
     pub rows: [Row; ROOM],
     pub count: usize,
 }
 
 // An array whose first rows were lent, as it came back, and what the pager said and keeps.
-#[derive(Drop)]
+#[derive(Clone, Copy)]
 struct Lending {
     turn: Kept,
     rows: [Row; ROOM],
 }
 
-#[derive(Drop)]
+#[derive(Clone, Copy)]
 pub struct Served {
     pub turn: Kept,
     pub table: SwapTable,

@@ -1,12 +1,12 @@
 -- The lent form's answers and rows equal the plain form's; one answer, one keeper and one list of rows for every event.
-use mathlib.Core.Bool.{Bool, true, false, not, ◌&&◌, false≢true}
-use mathlib.Core.Path.{◌≡◌, refl, sym, ◌∙◌, ap, subst}
-use mathlib.Core.Logic.{◌≢◌, ◌⊎◌, inl, inr}
+use Rattle.std.specs.Prelude.{if◌then◌else◌}
+use mathlib.Core.Bool.{Bool, true, false, not, false≢true}
+use mathlib.Core.Path.{◌≡◌, refl, sym, ◌∙◌, ap}
+use mathlib.Core.Logic.{◌≢◌}
 use mathlib.Core.List.{List, [], ◌∷◌}
 use Prim.Native.Nat.{ℕ}
 use native.Mathlib.Omega.{arith}
 use lib.ListN.{length, replicate}
-use Rattle.rules.specs.Words.{if◌then◌else◌}
 use Rattle.pages.specs.declared.Row.{Row}
 use Rattle.pages.specs.declared.Event.{Event}
 use Rattle.pages.specs.declared.Event.TheVariants.{Refill, Fault, Report, End}
@@ -21,7 +21,7 @@ use Rattle.pages.proofs.Ruled.{fresh_ruled, keeps}
 use Rattle.odds.specs.Odds.{agrees}
 use Rattle.lent.specs.declared.Keeper.{Keeper}
 use Rattle.lent.specs.declared.Kept.{Kept}
-use Rattle.lent.specs.Lent.{joined, without_rows, fresh, refusing, after, no_uproc, verdict_of, Lent, lent, lent_answers, Keeping}
+use Rattle.lent.specs.Lent.{joined, without_rows, fresh, refusing, after, no_uproc, verdict_of, lent, lent_answers}
 use Rattle.lent.proofs.Laws.{verdict_9, verdict_long, verdict_agrees, verdict_odds, agreeing, rows_go, rows_stop}
 
 -- ── 9 ──

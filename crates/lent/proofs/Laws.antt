@@ -1,28 +1,24 @@
 -- The verdict as code finds it; the sheet and the lent rows; the plain form's answers and rows.
+use Rattle.std.specs.Prelude.{if◌then◌else◌}
 use mathlib.Core.Bool.{Bool, true, false, not, ◌&&◌}
 use mathlib.Core.Path.{◌≡◌, refl, sym, ◌∙◌, ap, subst}
 use mathlib.Core.Logic.{◌≢◌, ◌⊎◌, inl, inr}
-use mathlib.Core.List.{List, [], ◌∷◌}
-use Prim.Native.Nat.{ℕ, zero, suc, ◌≤◌, ◌<◌}
+use mathlib.Core.List.{List}
+use Prim.Native.Nat.{ℕ, ◌≤◌, ◌<◌}
 use native.Mathlib.Omega.{arith}
 use lib.Dec.{eqb, leb, ltb}
 use lib.ListN.{length}
-use borrow.Author.Tests.{eq-eqb, ne_eqb, eqb-true, eqb-false, le-leb, lt-leb, lt-ltb, le-ltb, leb-true, leb-false}
-use Rattle.rules.specs.Words.{if◌then◌else◌}
-use Rattle.rules.proofs.Cases.{if_cases, and_intro, and_left, and_right}
+use borrow.Author.Tests.{eq-eqb, ne_eqb, eqb-true, le-leb, lt-leb, lt-ltb, le-ltb, leb-true, leb-false}
 use Rattle.pages.specs.declared.Row.{Row}
 use Rattle.pages.specs.declared.Event.{Event}
-use Rattle.pages.specs.declared.Event.TheVariants.{Refill, Fault, Report, End}
 use Rattle.pages.specs.declared.Table.{Table}
 use Rattle.pages.specs.declared.Transfer.{Transfer}
 use Rattle.pages.specs.declared.Transfer.TheVariants.{Closed, Writing, Reading}
 use Rattle.pages.specs.declared.Pager.{Pager}
-use Rattle.pages.specs.declared.Turn.{Turn}
-use Rattle.pages.specs.declared.Answer.{Answer}
-use Rattle.pages.specs.Numbers.{u_procs, width, frames, no_such_uproc, at_odds}
+use Rattle.pages.specs.Numbers.{u_procs, frames, no_such_uproc, at_odds}
 use Rattle.pages.specs.Rules as rules
 use Rattle.pages.specs.Rules.{row, is_uproc, of_uproc, step, answers, run}
-use Rattle.pages.specs.Ruled.{Matches, Waits, Left, Open, Ruled}
+use Rattle.pages.specs.Ruled.{Open, Ruled}
 use Rattle.pages.proofs.Ruled.{fresh_ruled, keeps}
 use Rattle.pages.proofs.Matches.{decide}
 use Rattle.swap.specs.declared.Sheet.{Sheet}
@@ -31,9 +27,8 @@ use Rattle.swap.proofs.Rows.{over_same, over_read, over_long, fill_same}
 use Rattle.odds.specs.Odds.{agrees, transfer_agrees}
 use Rattle.odds.proofs.Agrees.{matched, agreed, transfer_passes, moving_free, free_moving}
 use Rattle.lent.specs.declared.Keeper.{Keeper}
-use Rattle.lent.specs.declared.Kept.{Kept}
 use Rattle.lent.specs.declared.Decided.{Decided}
-use Rattle.lent.specs.Lent.{joined, without_rows, fresh, refusing, after, no_uproc, verdict_of, Lent, lent, decided, Awaited, Waiting, Keeping}
+use Rattle.lent.specs.Lent.{joined, without_rows, fresh, refusing, after, no_uproc, verdict_of, Lent, lent, decided, Waiting, Keeping}
 
 -- ── The number of a U-proc ──
 

@@ -1,8 +1,7 @@
 -- "In its last form, after the plain one, the desk lends the swap table, one row a frame, to be read and changed where
 -- it lies; a lent table not sixteen rows long or at odds with the page tables is refused with 12, untouched, after 9
 -- and before 11."
-use Rattle.std.specs.Prelude.{Bool, true, false, not, ◌&&◌, ◌≡◌, List, [], ◌∷◌, ℕ, ◌≤◌, ◌<◌, eqb, length}
-use Rattle.rules.specs.Words.{if◌then◌else◌}
+use Rattle.std.specs.Prelude.{Bool, false, not, ◌&&◌, ◌≡◌, List, [], ◌∷◌, ℕ, ◌≤◌, ◌<◌, eqb, length, if◌then◌else◌}
 use Rattle.pages.specs.declared.Row.{Row}
 use Rattle.pages.specs.declared.Event.{Event}
 use Rattle.pages.specs.declared.Event.TheVariants.{Refill, Fault, Report, End}

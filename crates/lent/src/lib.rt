@@ -1,5 +1,7 @@
 // The pager in its last form: "the desk lends the swap table, one row a frame, to be read and changed where it lies".
 // What it keeps of its own are the page tables, the hand and the open transfer. Public are `fresh` and `event`.
+#![tactic(auto)]
+
 ghost use Rattle.std.specs.Prelude.{not, ◌≡◌, ◌<◌};
 ghost use Rattle.pages.specs.Numbers.{frames};
 ghost use Rattle.pages.specs.Ruled.{Ruled};
@@ -15,21 +17,21 @@ use pages::{
 use swap::{Sheet, read_rows, write_rows};
 
 // What the pager keeps where the swap table is lent.
-#[derive(Drop)]
+#[derive(Clone, Copy)]
 pub struct Keeper {
     pub tables: [Table; U_PROCS],
     pub hand: usize,
     pub transfer: Transfer,
 }
 
-#[derive(Drop)]
+#[derive(Clone, Copy)]
 pub struct Kept {
     pub answer: Answer,
     pub keeper: Keeper,
 }
 
 // What an event makes of a sheet of rows.
-#[derive(Drop)]
+#[derive(Clone, Copy)]
 pub struct Decided {
     pub turn: Kept,
     pub sheet: Sheet,

@@ -1,5 +1,6 @@
 -- What a look tells, over tables alone: the one seat of a slot, where it is, and the mask of all.
 -- Assumes nothing.
+use Rattle.std.specs.Prelude.{if◌then◌else◌}
 use mathlib.Core.Path.{◌≡◌, refl, sym, ap, ap₂, ◌∙◌}
 use mathlib.Core.Bool.{Bool, true, false, true≢false}
 use mathlib.Core.List.{List, [], ◌∷◌, ◌++◌, map}
@@ -12,7 +13,7 @@ use borrow.Author.Tests.{eqb-true, leb-true, leb-false, ltb-true, ltb-false, eq-
 use lib.ListN.{length, take, get_or, replicate, length-take, take-append-drop, get_or-eq_default}
 use Rattle.rules.specs.declared.Line.TheVariants.{Device}
 use Rattle.rules.specs.declared.Part.TheVariants.{Absent, Number}
-use Rattle.rules.specs.Words.{if◌then◌else◌, first, those, any, sum, All}
+use Rattle.rules.specs.Words.{first, those, any, sum, All}
 use Rattle.rules.specs.Numbers.{base_slots, most_processors}
 use Rattle.rules.proofs.Sums.{sum_over}
 use Rattle.rules.specs.Machine as book

@@ -1,8 +1,8 @@
 -- What a host sees of a machine: each thing said of the rule book's machine, for every slot and every number.
-use Rattle.std.specs.Prelude.{Bool, List, [], ◌∷◌, ◌++◌, map, ℕ, suc, ◌-◌, eqb, length, get_or, replicate}
+use Rattle.std.specs.Prelude.{Bool, List, [], ◌∷◌, ◌++◌, map, ℕ, suc, ◌-◌, eqb, length, get_or, replicate, if◌then◌else◌}
 use Rattle.rules.specs.declared.Part.{Part}
 use Rattle.rules.specs.declared.Part.TheVariants.{Absent, Number}
-use Rattle.rules.specs.Words.{if◌then◌else◌, first, those, any}
+use Rattle.rules.specs.Words.{first, those, any}
 use Rattle.rules.specs.Numbers.{base_slots}
 use Rattle.rules.specs.Tables.{slots_of, idle_time}
 use Rattle.rules.specs.Machine as book

@@ -2,6 +2,8 @@
 // Each promise is one equation for the result, for every argument: there is one result and no other. Slots and
 // customers are bytes, as in answers. Whether somebody is in a slot is told by the id (0 is nobody's) and by the place;
 // the other numbers are 0 where nobody is there.
+#![tactic(auto)]
+
 ghost use Rattle.std.specs.Prelude.{◌≡◌, length, ◌+◌, ◌<◌, ◌≤◌};
 ghost use Rattle.lines.specs.Lines.{entry, is_id, first_where, tally};
 ghost use Rattle.lines.specs.declared.Found.TheVariants.{Nothing};
@@ -20,7 +22,7 @@ use rules::{CUSTOMERS, Line, PROCESSORS, Part, SEMAPHORES, SLOTS};
 use tables::{CLOCK, FIRST_DEVICE, LAST_SEMAPHORE, Tables};
 
 // Where a process is: "nobody there", running on a processor, in the high or the low ready line, or in a waiting line.
-#[derive(Drop)]
+#[derive(Clone, Copy)]
 pub enum Place {
     Nowhere,
     Running(u8),
@@ -32,7 +34,7 @@ pub enum Place {
 // All that the tables have of the process in a slot: its id, the id of its parent (0 for id 1), its customer, its
 // priority (the whole a2 of its birth, of which the rest by 256 is read), its support handle ("0 is none"), its time,
 // and where it is.
-#[derive(Drop)]
+#[derive(Clone, Copy)]
 pub struct Row {
     pub id: u32,
     pub parent: u32,
@@ -44,14 +46,14 @@ pub struct Row {
 }
 
 // Slots in the order in which they stand, and how many they are; the places behind are zero.
-#[derive(Drop)]
+#[derive(Clone, Copy)]
 pub struct Order {
     pub slots: [u8; SLOTS],
     pub count: usize,
 }
 
 // Whether a machine takes events: one that "has halted or panicked" refuses them all.
-#[derive(Drop)]
+#[derive(Clone, Copy)]
 pub enum Status {
     On,
     Halted,
@@ -59,7 +61,7 @@ pub enum Status {
 }
 
 // The sum of the accepted gaps, and the parts of it that no living process has.
-#[derive(Drop)]
+#[derive(Clone, Copy)]
 pub struct Totals {
     pub gaps: u64,
     pub idle: u64,

@@ -13,11 +13,9 @@ use Rattle.rules.proofs.Cases.{and_intro, and_left, and_right}
 use Rattle.pages.specs.declared.Row.{Row}
 use Rattle.pages.specs.declared.Table.{Table}
 use Rattle.pages.specs.declared.Transfer.{Transfer}
-use Rattle.pages.specs.declared.Transfer.TheVariants.{Closed, Writing, Reading}
 use Rattle.pages.specs.Numbers.{u_procs, width, frames}
 use Rattle.pages.specs.Rules.{free, no_table, table, entry, row, held, is_free, is_uproc}
 use Rattle.pages.specs.Ruled.{Page, Seated, Matches}
-use Rattle.pages.specs.Laws.{in_transfer}
 use Rattle.pages.proofs.Matches.{decide}
 use Rattle.odds.specs.Odds.{every, row_agrees, entry_agrees, table_agrees, transfer_agrees, agrees}
 

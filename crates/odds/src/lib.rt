@@ -1,4 +1,6 @@
 // Do sixteen rows agree with the page tables and the open transfer? Each function tests one kind of thing, by value.
+#![tactic(auto)]
+
 ghost use Rattle.std.specs.Prelude.{◌≡◌, ◌<◌, suc};
 ghost use Rattle.pages.specs.Numbers.{u_procs, width, frames};
 ghost use Rattle.pages.specs.Ruled.{Page};

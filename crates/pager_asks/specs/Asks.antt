@@ -1,19 +1,14 @@
 -- What a line of the pager's text asks: `refill U PAGE`, `fault U PAGE load|store|mod`, `report ok|failed`, `end U`
 -- (numbers decimal or 0x), and for the lent table `rows N` and `row FRAME OWNER ENTRY`. An empty line asks nothing. A
 -- bad line tells its first bad word.
-use Rattle.std.specs.Prelude.{Bool, true, false, List, [], ◌∷◌, ℕ, ◌-◌, ◌^◌, ◌≤◌, eqb, take, drop}
-use Rattle.rules.specs.Words.{if◌then◌else◌}
-use Rattle.pages.specs.declared.Row.{Row}
-use Rattle.pages.specs.declared.Cause.{Cause}
+use Rattle.std.specs.Prelude.{Bool, true, false, List, [], ◌∷◌, ℕ, ◌-◌, ◌^◌, ◌≤◌, eqb, take, drop, if◌then◌else◌}
 use Rattle.pages.specs.declared.Cause.TheVariants.{Load, Store, Modification}
-use Rattle.pages.specs.declared.Event.{Event}
 use Rattle.pages.specs.declared.Event.TheVariants.{Refill, Fault, Report, End}
 use Rattle.pages.specs.Rules.{held}
 use Rattle.words.specs.declared.Number.{Number}
 use Rattle.words.specs.declared.Number.TheVariants.{Is, Not}
 use Rattle.words.specs.Texts.{word_at, same}
 use Rattle.words.specs.Figures.{decimal_of, hexadecimal_of}
-use Rattle.pager_asks.specs.declared.Expected.{Expected}
 use Rattle.pager_asks.specs.declared.Expected.TheVariants as want
 use Rattle.pager_asks.specs.declared.Ask.{Ask}
 use Rattle.pager_asks.specs.declared.Ask.TheVariants.{Empty, Asked, Length, Set, Bad}

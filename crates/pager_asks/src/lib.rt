@@ -1,4 +1,6 @@
 // A line of the pager's text form taken apart: what it asks, or its first bad word and what was expected there.
+#![tactic(auto)]
+
 ghost use Rattle.std.specs.Prelude.{◌≡◌};
 ghost use Rattle.words.specs.Texts;
 ghost use Rattle.pager_asks.specs.Asks;
@@ -14,7 +16,7 @@ const BYTE: u64 = 255;
 
 pub const ROWS: usize = 64;
 
-#[derive(Drop)]
+#[derive(Clone, Copy)]
 pub enum Expected {
     Command,
     Number,
@@ -26,7 +28,7 @@ pub enum Expected {
     Nothing,
 }
 
-#[derive(Drop)]
+#[derive(Clone, Copy)]
 pub enum Ask {
     Empty,
     Asked(Event),

@@ -1,4 +1,5 @@
 -- Laws of an answer's line: no line is longer than the longest; a number that is shown, or absent.
+use Rattle.std.specs.Prelude.{if◌then◌else◌}
 use mathlib.Core.Path.{◌≡◌, refl, ap, ◌∙◌}
 use mathlib.Core.Bool.{Bool, true, false}
 use mathlib.Core.Logic.{◌≢◌}
@@ -8,13 +9,13 @@ use native.Mathlib.Omega.{arith}
 use lib.Dec.{ltb}
 use lib.ListN.{length, length-append}
 use borrow.Author.Tests.{ltb-true, lt-ltb, le-ltb}
-use Rattle.rules.specs.Words.{if◌then◌else◌, sum}
+use Rattle.rules.specs.Words.{sum}
 use Rattle.report.specs.Text.{decimal, absent, joined}
 use Rattle.report.specs.Buffer.{longest}
 use Rattle.report.proofs.Decimal.{length_within}
 use Rattle.pages.specs.declared.Word.{Word}
 use Rattle.pages.specs.declared.Word.TheVariants as word
-use Rattle.pager_text.specs.Answers.{name, none, frame_in, shown, parts, line_of}
+use Rattle.pager_text.specs.Answers.{name, none, frame_in, shown, line_of}
 
 pub in_frame : (v : ℕ) → v ≢ 0 → v - 1 ≡ frame_in v
 in_frame zero ne = absurd (ne refl)
@@ -51,3 +52,9 @@ pub line_within : (n r : ℕ) (w : Word) (u e f m : ℕ) → n < 2 ^ 32 → r < 
 unfolding line_of
 line_within n r w u e f m a b c = rw (length-append (decimal n), joined_length)
     (omega (arith, length_within n 9 (omega arith), length_within r 2 (omega arith), name_length w, shown_length u, shown_length e, shown_length f, length_within m 4 (omega arith)))
+
+-- the parts one by one: each has room behind those before it
+pub line_room : (n r : ℕ) (w : Word) (u e f m : ℕ) → n < 2 ^ 32 → r < 2 ^ 8 → m < 2 ^ 16
+    → length (decimal n) + suc (length (decimal r)) + suc (length (name w)) + suc (length (shown u)) + suc (length (shown e)) + suc (length (shown f)) + suc (length (decimal m)) + 1 ≤ longest
+line_room n r w u e f m a b c =
+    omega (arith, length_within n 9 (omega arith), length_within r 2 (omega arith), name_length w, shown_length u, shown_length e, shown_length f, length_within m 4 (omega arith))

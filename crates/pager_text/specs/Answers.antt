@@ -1,6 +1,5 @@
 -- The line of an answer, in bytes: N REFUSAL WORD U ENTRY FRAME FRAMES.
-use Rattle.std.specs.Prelude.{List, [], ◌∷◌, ◌++◌, ℕ, zero, suc, ltb}
-use Rattle.rules.specs.Words.{if◌then◌else◌}
+use Rattle.std.specs.Prelude.{List, [], ◌∷◌, ◌++◌, ℕ, zero, suc, ltb, if◌then◌else◌}
 use Rattle.report.specs.Text.{decimal, absent, joined}
 use Rattle.pages.specs.declared.Word.{Word}
 use Rattle.pages.specs.declared.Word.TheVariants as word

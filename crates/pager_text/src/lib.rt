@@ -1,4 +1,6 @@
 // The pager's text form: a line of the program's input taken apart, and an answer as the line that is written.
+#![tactic(auto)]
+
 ghost use Rattle.std.specs.Prelude.{◌≡◌, ◌∷◌, [], ◌+◌, ◌≤◌, ◌<◌, length};
 ghost use Rattle.report.specs.Text.{decimal, space};
 ghost use Rattle.report.specs.Buffer.{Puts, Writes};
@@ -15,7 +17,7 @@ const LONGEST: usize = report::LONGEST;
 const ABSENT: u16 = 256;
 
 // The parts of an answer behind its word.
-#[derive(Drop)]
+#[derive(Clone, Copy)]
 pub struct Seen {
     pub u: u16,
     pub entry: u16,

@@ -1,4 +1,5 @@
 -- Page tables and rows that match: what a mark, a set row and an end make of that.
+use Rattle.std.specs.Prelude.{if◌then◌else◌}
 use mathlib.Core.Bool.{Bool, true, false}
 use mathlib.Core.Path.{◌≡◌, refl, sym, ◌∙◌, ap, subst}
 use mathlib.Core.Logic.{◌≢◌, ◌⊎◌, inl, inr}
@@ -9,7 +10,6 @@ use lib.Dec.{T, eqb, eqb→eq}
 use lib.ListN.{length, get_or, set, replicate, length-set, length-map, get_or-replicate, get_or-map}
 use lib.Seq.{get_or-set_same, get_or-set_other}
 use borrow.Author.Tests.{eq-eqb, ne_eqb}
-use Rattle.rules.specs.Words.{if◌then◌else◌}
 use Rattle.pages.specs.declared.Row.{Row}
 use Rattle.pages.specs.declared.Table.{Table}
 use Rattle.pages.specs.Numbers.{u_procs, width, frames}

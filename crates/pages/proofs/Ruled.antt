@@ -1,4 +1,5 @@
 -- A fresh pager obeys the rule, and every event keeps it.
+use Rattle.std.specs.Prelude.{if◌then◌else◌}
 use mathlib.Core.Bool.{Bool, true, false, ◌&&◌}
 use mathlib.Core.Path.{◌≡◌, refl, sym, ◌∙◌, ap, subst}
 use mathlib.Core.Logic.{◌⊎◌, inl, inr}
@@ -10,7 +11,7 @@ use lib.Dec.{T, eqb, leb, eqb→eq, leb→le}
 use lib.ListN.{length, get_or, set, get_or-replicate}
 use lib.Seq.{get_or-set_same}
 use borrow.Author.Tests.{eq-eqb}
-use Rattle.rules.specs.Words.{if◌then◌else◌, first}
+use Rattle.rules.specs.Words.{first}
 use Rattle.pages.specs.declared.Row.{Row}
 use Rattle.pages.specs.declared.Found.{Found}
 use Rattle.pages.specs.declared.Found.TheVariants.{At, Nothing}

@@ -1,7 +1,7 @@
 -- What is promised of any pager that obeys the rule, and so of any events from a fresh one. proofs/Promises has the
 -- theorem.
-use Rattle.std.specs.Prelude.{Bool, true, false, not, ◌&&◌, ◌≡◌, ◌≢◌, ◌⊎◌, List, [], ◌∷◌, ℕ, suc, ◌+◌, ◌%◌, ◌≤◌, ◌<◌, length}
-use Rattle.rules.specs.Words.{if◌then◌else◌, among, count}
+use Rattle.std.specs.Prelude.{Bool, true, false, not, ◌&&◌, ◌≡◌, ◌≢◌, ◌⊎◌, List, [], ◌∷◌, ℕ, suc, ◌+◌, ◌%◌, ◌≤◌, ◌<◌, length, if◌then◌else◌}
+use Rattle.rules.specs.Words.{among, count}
 use Rattle.pages.specs.declared.Row.{Row}
 use Rattle.pages.specs.declared.Cause.{Cause}
 use Rattle.pages.specs.declared.Event.{Event}

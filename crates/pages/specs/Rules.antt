@@ -1,7 +1,7 @@
 -- The pager's rules, sentence by sentence of 02, (iv). The machine is the code's own: tables, rows, hand and open
 -- transfer.
-use Rattle.std.specs.Prelude.{Bool, true, false, ◌&&◌, ◌||◌, List, [], ◌∷◌, map, ℕ, zero, suc, ◌+◌, ◌-◌, ◌*◌, ◌%◌, eqb, leb, get_or, set, replicate}
-use Rattle.rules.specs.Words.{if◌then◌else◌, first, count}
+use Rattle.std.specs.Prelude.{Bool, true, false, ◌&&◌, ◌||◌, List, [], ◌∷◌, map, ℕ, zero, suc, ◌+◌, ◌-◌, ◌*◌, ◌%◌, eqb, leb, get_or, set, replicate, if◌then◌else◌}
+use Rattle.rules.specs.Words.{first, count}
 use Rattle.pages.specs.declared.Row.{Row}
 use Rattle.pages.specs.declared.Found.{Found}
 use Rattle.pages.specs.declared.Found.TheVariants.{At, Nothing}

@@ -1,4 +1,5 @@
 // The pager's words: what an event is, what an answer is, and what the pager keeps. The rules are in specs/Rules.
+#![tactic(auto)]
 
 // The numbers that arrays are as long as; specs/Numbers has their sentences.
 pub const U_PROCS: usize = 8;
@@ -15,20 +16,20 @@ pub const OUT_OF_TURN: u8 = 11;
 pub const AT_ODDS: u8 = 12;
 
 // A row of the swap table: whose page is in the frame, and which entry it is. Owner 0 is nobody's: the row is free.
-#[derive(Drop)]
+#[derive(Clone, Copy)]
 pub struct Row {
     pub owner: u8,
     pub page: u8,
 }
 
 // A frame, or that there is none.
-#[derive(Drop)]
+#[derive(Clone, Copy)]
 pub enum Found {
     At(usize),
     Nothing,
 }
 
-#[derive(Drop)]
+#[derive(Clone, Copy)]
 pub enum Cause {
     Load,
     Store,
@@ -36,7 +37,7 @@ pub enum Cause {
 }
 
 // A U-proc's number and a page number come as they are asked; the rules say which are refused.
-#[derive(Drop)]
+#[derive(Clone, Copy)]
 pub enum Event {
     // U-proc, page
     Refill(u32, u32),
@@ -49,20 +50,20 @@ pub enum Event {
 }
 
 // A page table: for each entry 0 where the page is absent, or its frame's number and one.
-#[derive(Drop)]
+#[derive(Clone, Copy)]
 pub struct Table {
     pub entries: [u8; ENTRIES],
 }
 
 // The open transfer: frame, U-proc and entry that are waited for; of a write also the row of the evicted page.
-#[derive(Drop)]
+#[derive(Clone, Copy)]
 pub enum Transfer {
     Closed,
     Writing(u8, u8, u8, Row),
     Reading(u8, u8, u8),
 }
 
-#[derive(Drop)]
+#[derive(Clone, Copy)]
 pub enum Word {
     None,
     // U-proc, entry, and the entry as it stands
@@ -81,13 +82,13 @@ pub enum Word {
     Freed(u8, u16),
 }
 
-#[derive(Drop)]
+#[derive(Clone, Copy)]
 pub struct Answer {
     pub refusal: u8,
     pub word: Word,
 }
 
-#[derive(Drop)]
+#[derive(Clone, Copy)]
 pub struct Pager {
     pub tables: [Table; U_PROCS],
     pub rows: [Row; FRAMES],
@@ -95,7 +96,7 @@ pub struct Pager {
     pub transfer: Transfer,
 }
 
-#[derive(Drop)]
+#[derive(Clone, Copy)]
 pub struct Turn {
     pub answer: Answer,
     pub pager: Pager,

@@ -1,18 +1,18 @@
 -- Refusals by number, and the event that none stops.
-use mathlib.Core.Bool.{Bool, true, false, ◌&&◌}
-use mathlib.Core.Path.{◌≡◌, refl, sym, ◌∙◌, ap, subst}
+use Rattle.std.specs.Prelude.{if◌then◌else◌}
+use mathlib.Core.Bool.{Bool, true, false}
+use mathlib.Core.Path.{◌≡◌, refl, sym, ◌∙◌}
 use mathlib.Core.Logic.{◌≢◌}
-use Prim.Native.Nat.{ℕ, zero, suc, ◌≤◌, ◌<◌}
+use Prim.Native.Nat.{ℕ, ◌≤◌, ◌<◌}
 use native.Mathlib.Omega.{arith}
 use lib.Dec.{leb}
 use borrow.Author.Tests.{leb-true, le-leb, lt-leb}
-use Rattle.rules.specs.Words.{if◌then◌else◌}
 use Rattle.rules.proofs.Cases.{and_left, and_right}
 use Rattle.pages.specs.declared.Transfer.{Transfer}
 use Rattle.pages.specs.declared.Transfer.TheVariants.{Closed, Writing, Reading}
 use Rattle.pages.specs.declared.Pager.{Pager}
 use Rattle.pages.specs.declared.Turn.{Turn}
-use Rattle.pages.specs.Numbers.{u_procs, no_such_uproc, out_of_turn}
+use Rattle.pages.specs.Numbers.{u_procs, no_such_uproc}
 use Rattle.pages.specs.Rules.{is_uproc, refusing, closed, of_uproc}
 use Rattle.paging.specs.Refusals.{busy, refusal_of}
 

@@ -1,7 +1,6 @@
 -- One answer and one pager for every event; and whoever calls `event` again and again from `fresh` has what the laws
 -- promise.
 use mathlib.Core.Path.{◌≡◌, sym, ◌∙◌, subst}
-use mathlib.Core.List.{List, [], ◌∷◌}
 use Rattle.pages.specs.declared.Event.{Event}
 use Rattle.pages.specs.declared.Pager.{Pager}
 use Rattle.pages.specs.declared.Turn.{Turn}

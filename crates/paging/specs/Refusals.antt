@@ -1,9 +1,7 @@
 -- The refusal of an event that names a U-proc, by number; 0 is none.
-use Rattle.std.specs.Prelude.{ℕ}
-use Rattle.rules.specs.Words.{if◌then◌else◌}
+use Rattle.std.specs.Prelude.{ℕ, if◌then◌else◌}
 use Rattle.pages.specs.declared.Transfer.{Transfer}
 use Rattle.pages.specs.declared.Transfer.TheVariants.{Closed, Writing, Reading}
-use Rattle.pages.specs.declared.Pager.{Pager}
 use Rattle.pages.specs.Numbers.{no_such_uproc, out_of_turn}
 use Rattle.pages.specs.Rules.{is_uproc}
 

@@ -1,6 +1,8 @@
 // The pager by value: a pager and an event go in, the pager comes back beside the answer. Public are `fresh` and
 // `event`;
 // the rest are their parts, each of which promises one rule of the rule book.
+#![tactic(auto)]
+
 ghost use Rattle.std.specs.Prelude.{◌≡◌, ◌≤◌, ◌<◌, ◌+◌};
 ghost use Rattle.rules.specs.Words.{first};
 ghost use Rattle.pages.specs.Numbers.{u_procs, width, frames};

@@ -1,16 +1,14 @@
 -- The mask of a U-proc's frames, made from the last frame on, and rows changed one after the other.
 use mathlib.Core.Bool.{Bool, true, false}
-use mathlib.Core.Path.{◌≡◌, refl, sym, ◌∙◌, ap}
+use mathlib.Core.Path.{◌≡◌, refl, ap}
 use mathlib.Core.Logic.{◌≢◌}
 use mathlib.Core.List.{List, [], ◌∷◌, map}
 use Prim.Native.Nat.{ℕ, zero, suc, ◌+◌, ◌*◌, ◌-◌, ◌^◌, ◌≤◌, ◌<◌}
 use native.Mathlib.Omega.{arith}
 use native.Mathlib.Nat.{not-suc-le-zero, le_of_suc-le-suc}
-use lib.Dec.{eqb}
-use lib.ListN.{length, take, drop, set, get_or, length-drop}
-use lib.Seq.{drop-cons}
+use lib.ListN.{length, drop, set, get_or, length-drop}
 use borrow.Author.Tests.{eq-eqb, ne_eqb}
-use Rattle.rules.specs.Words.{if◌then◌else◌, count}
+use Rattle.rules.specs.Words.{count}
 use Rattle.pages.specs.declared.Row.{Row}
 use Rattle.pages.specs.Numbers.{frames}
 use Rattle.pages.specs.Rules.{free, is_of, mask, freed}

@@ -1,4 +1,6 @@
 // The pool by value: sixteen rows, one a frame. What is found in them, and what an end makes of them.
+#![tactic(auto)]
+
 ghost use Rattle.std.specs.Prelude.{◌≡◌, map, take};
 ghost use Rattle.rules.specs.Words.{count};
 ghost use Rattle.pages.specs.Rules.{lowest_free, first_frame, names, mask, is_of, freed};

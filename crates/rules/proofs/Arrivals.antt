@@ -1,6 +1,7 @@
 -- An event at a processor: refused with 7 where there is none, unless the machine is over; otherwise an event of the
 -- machine with that seat taken.
 -- A refused one leaves the machine as it was.
+use Rattle.std.specs.Prelude.{if◌then◌else◌}
 use mathlib.Core.Path.{◌≡◌, refl, ◌∙◌, ap}
 use mathlib.Core.Bool.{Bool, true, false, ◌||◌}
 use Prim.Native.Nat.{ℕ, suc, ◌≤◌, ◌<◌}
@@ -8,7 +9,6 @@ use lib.Dec.{ltb}
 use borrow.Author.Tests.{lt-ltb, le-ltb, ltb-true, ltb-false}
 use Rattle.rules.specs.declared.Event.{Event}
 use Rattle.rules.specs.declared.Arrival.{Arrival}
-use Rattle.rules.specs.Words.{if◌then◌else◌}
 use Rattle.rules.specs.Numbers.{over, no_such_processor}
 use Rattle.rules.proofs.Cases.{if_cases, or_true}
 use Rattle.rules.specs.Machine.{Machine, processors, turn}

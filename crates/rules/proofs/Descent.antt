@@ -1,4 +1,5 @@
 -- Whoever has no parent is id 1, and a child of a customer other than 0 is of its parent's customer.
+use Rattle.std.specs.Prelude.{if◌then◌else◌}
 use mathlib.Core.Path.{◌≡◌, refl, sym, ◌∙◌, ap, subst}
 use mathlib.Core.Bool.{Bool, true, false, ◌||◌}
 use mathlib.Core.List.{List, ◌∷◌, [], map}
@@ -7,7 +8,7 @@ use native.Mathlib.Omega.{arith}
 use lib.Dec.{eqb, ltb}
 use borrow.Author.Tests.{eq-eqb, ne_eqb}
 use Rattle.rules.specs.declared.Event.{Event}
-use Rattle.rules.specs.Words.{if◌then◌else◌, first, sum, count, many, Single, All}
+use Rattle.rules.specs.Words.{first, sum, count, many, Single, All}
 use Rattle.rules.specs.Numbers.{customer_unit}
 use Rattle.rules.specs.Machine.{Process, Machine, Status, seated_in, ready, living, with_sem, with_status, kill, newborn, birth, charge, child_of, fresh}
 use Rattle.rules.specs.Rules

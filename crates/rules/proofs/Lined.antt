@@ -1,4 +1,5 @@
 -- 02, (vi): everyone ready is in the line of their own priority, and the count of four is at most four.
+use Rattle.std.specs.Prelude.{if◌then◌else◌}
 use mathlib.Core.Path.{◌≡◌, refl}
 use mathlib.Core.Bool.{Bool, true, false, not}
 use mathlib.Core.List.{List, [], ◌∷◌}
@@ -8,7 +9,7 @@ use lib.Dec.{leb}
 use borrow.Author.Tests.{leb-false}
 use Rattle.rules.specs.declared.Event.{Event}
 use Rattle.rules.specs.declared.Line.TheVariants.{PseudoClock}
-use Rattle.rules.specs.Words.{if◌then◌else◌, those, front, rest, Single, All}
+use Rattle.rules.specs.Words.{those, front, rest, Single, All}
 use Rattle.rules.specs.Numbers.{most_in_a_row}
 use Rattle.rules.specs.Machine.{Process, Machine, is_high, joined, counted, takes_low, line, back, block, dispatch, wake, wake_all, family, kill, newborn, birth, charge}
 use Rattle.rules.specs.Tables.{InOwnLine}

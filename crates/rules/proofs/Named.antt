@@ -1,5 +1,6 @@
 -- THE NEW MASK: bit k is set exactly where whoever runs on processor k ends, and never for the processor of the event
 -- itself.
+use Rattle.std.specs.Prelude.{if◌then◌else◌}
 use mathlib.Core.Path.{◌≡◌, refl, ◌∙◌, ap}
 use mathlib.Core.Bool.{Bool, true, false}
 use mathlib.Core.List.{List, [], ◌∷◌}
@@ -12,7 +13,7 @@ use borrow.Author.Tests.{ltb-true, ltb-false}
 use Rattle.rules.specs.declared.Event.{Event}
 use Rattle.rules.specs.declared.Arrival.{Arrival}
 use Rattle.rules.specs.declared.Answer.{Answer}
-use Rattle.rules.specs.Words.{if◌then◌else◌, any, count, Single}
+use Rattle.rules.specs.Words.{any, count, Single}
 use Rattle.rules.proofs.Cases.{if_cases}
 use Rattle.rules.specs.Machine.{Process, Seat, Machine, family, rid_of, kill, birth, charge, blank, processors, turn}
 use Rattle.rules.specs.Answers.{Outcome, processors_of, left_idle}

@@ -1,4 +1,5 @@
 -- The rule that the tables obey holds of every start, a refused one too, and every event at any processor keeps it.
+use Rattle.std.specs.Prelude.{if◌then◌else◌}
 use mathlib.Core.Path.{◌≡◌, refl, ap, ◌∙◌, subst}
 use mathlib.Core.Logic.{◌≢◌}
 use mathlib.Core.Bool.{Bool, true, false, ◌||◌}
@@ -15,7 +16,7 @@ use Rattle.rules.specs.declared.Event.{Event}
 use Rattle.rules.specs.declared.Event.TheVariants.{Call}
 use Rattle.rules.specs.declared.Arrival.{Arrival}
 use Rattle.rules.specs.declared.Mode.TheVariants.{Kernel}
-use Rattle.rules.specs.Words.{if◌then◌else◌, any, sum, count, many, All}
+use Rattle.rules.specs.Words.{any, sum, count, many, All}
 use Rattle.rules.specs.Numbers.{top, most_processors, value_too_large, ceilings_not_allowed, processors_not_allowed}
 use Rattle.rules.proofs.Cases.{if_cases}
 use Rattle.rules.specs.Machine.{Process, Machine, seated_in, ready, on_processors, living, blank, processors, here, turn, idle_from, fresh}

@@ -1,4 +1,5 @@
 -- A seat is taken and taken back: nobody comes or goes, nothing is lost, and twice is nothing at all.
+use Rattle.std.specs.Prelude.{if◌then◌else◌}
 use mathlib.Core.Path.{◌≡◌, refl, ap}
 use mathlib.Core.Bool.{Bool, true, false}
 use mathlib.Core.List.{List, [], ◌∷◌}
@@ -8,7 +9,7 @@ use lib.Dec.{eqb, ltb}
 use lib.ListN.{length, length-set, get_or, set}
 use lib.Seq.{get_or-set_same}
 use borrow.Author.Tests.{ltb-true, lt-ltb, le-ltb}
-use Rattle.rules.specs.Words.{if◌then◌else◌, first, sum, count, Single, All}
+use Rattle.rules.specs.Words.{first, sum, count, Single, All}
 use Rattle.rules.proofs.Cases.{if_cases, All-append, All-left, All-right}
 use Rattle.rules.proofs.Sums.{sum_append}
 use Rattle.rules.specs.Machine.{Process, Seat, Machine, Status, On, Halted, Panicked, seated_in, on_processors, living, nucleus_waits, with_seat, blank, processors, here, turn}

@@ -1,5 +1,6 @@
 -- HOW LONG ONE WAITS, 02, (vii): the one measure that every choice lowers and no other event raises, of a high one and
 -- of a low one alike. By it whoever is ready is run or has ended before it is nought.
+use Rattle.std.specs.Prelude.{if◌then◌else◌}
 use mathlib.Core.Path.{◌≡◌, refl, ◌∙◌, ap, subst}
 use mathlib.Core.Logic.{◌⊎◌, inl, inr}
 use mathlib.Core.Bool.{Bool, true, false, not}
@@ -12,7 +13,7 @@ use Rattle.rules.specs.declared.Event.{Event}
 use Rattle.rules.specs.declared.Action.{Action}
 use Rattle.rules.specs.declared.Action.TheVariants.{CarryOn, Run, Wait, Halt, Panic, PassUp, Nothing}
 use Rattle.rules.specs.declared.Answer.{Answer}
-use Rattle.rules.specs.Words.{if◌then◌else◌, those, front, rest, sum, count, many, Single}
+use Rattle.rules.specs.Words.{those, front, rest, sum, count, many, Single}
 use Rattle.rules.specs.Numbers.{most_in_a_row}
 use Rattle.rules.specs.Machine.{Process, Machine, Status, Halted, Panicked, low_turn, next_of, counted, next_line, ready, living, with_status, back, block, dispatch, wake, wake_all, family, family_of, kill, birth, charge, turn}
 use Rattle.rules.specs.Answers.{Outcome, plain, doing}

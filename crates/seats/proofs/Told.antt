@@ -1,4 +1,5 @@
 -- The mask of processors, summed by their numbers, is the rule book's.
+use Rattle.std.specs.Prelude.{if◌then◌else◌}
 use mathlib.Core.Path.{◌≡◌, refl, sym, ◌∙◌, ap}
 use mathlib.Core.Bool.{Bool, true, false, ◌||◌}
 use mathlib.Core.List.{List, [], ◌∷◌, map}
@@ -8,7 +9,7 @@ use native.Mathlib.Omega.{arith}
 use lib.Dec.{eqb}
 use lib.ListN.{get_or}
 use borrow.Author.Tests.{eq-eqb, ne_eqb, eqb-true, eqb-false}
-use Rattle.rules.specs.Words.{if◌then◌else◌, first, any}
+use Rattle.rules.specs.Words.{first, any}
 use Rattle.rules.specs.Numbers.{base_slots, most_processors}
 use Rattle.rules.specs.Machine.{Process, Seat, seated_in, family, rid_of}
 use Rattle.rules.specs.Answers.{processors_of}

@@ -1,8 +1,9 @@
 // The processors' seats kept in arrays, a place each: who runs there is its slot and one more, 0 for nobody and where
 // there is no such processor.
-ghost use Rattle.std.specs.Prelude.{◌≡◌, ◌^◌, ◌≤◌, length};
+#![tactic(auto)]
+
+ghost use Rattle.std.specs.Prelude.{◌≡◌, ◌^◌, ◌≤◌, length, if◌then◌else◌};
 ghost use Rattle.rules.specs.Numbers.{base_slots, most_processors};
-ghost use Rattle.rules.specs.Words.{if◌then◌else◌};
 ghost use Rattle.lines.specs.Lines.{marked, tally, struck};
 ghost use Rattle.seats.specs.Seats.{InSeats, held_by, leaving_of, runs_somewhere};
 

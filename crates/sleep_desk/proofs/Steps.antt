@@ -1,12 +1,11 @@
 -- What each function of this crate leaves to show, over plain values.
 -- Assumes nothing.
-use Rattle.std.proofs.Common.{◌≡◌, ℕ, ◌+◌, ◌%◌, ◌^◌, ◌<◌, Bool, true, false, ◌&&◌, ltb, List, [], ◌∷◌, ◌++◌, get_or, ℤ, pos, negsuc, sym, refl, ap, ◌∙◌, subst, true≢false, arith, to_z-of_z, w32, SFits, to_z, of_z, ltb-false, ltb-true, eq-eqb, ne_eqb, eqb-true}
+use Rattle.std.proofs.Common.{◌≡◌, ℕ, ◌+◌, ◌%◌, ◌^◌, ◌<◌, Bool, true, false, ◌&&◌, ltb, List, [], ◌∷◌, ◌++◌, get_or, ℤ, pos, negsuc, sym, refl, ap, ◌∙◌, subst, true≢false, arith, to_z-of_z, w32, SFits, to_z, of_z, ltb-false, ltb-true, eq-eqb, ne_eqb, eqb-true, if◌then◌else◌}
 use borrow.Author.Tests.{eqb-false}
 use Rattle.rules.specs.declared.Event.{Event}
 use Rattle.rules.specs.declared.Arrival.{Arrival}
 use Rattle.rules.specs.declared.Action.{Action}
 use Rattle.rules.specs.declared.Answer.{Answer}
-use Rattle.rules.specs.Words.{if◌then◌else◌}
 use Rattle.rules.specs.Numbers.{over, no_such_processor}
 use Rattle.rules.specs.Machine as desk
 use Rattle.rules.specs.Machine.{blank, processors, gap, turn}

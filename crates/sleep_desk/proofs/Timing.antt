@@ -1,12 +1,11 @@
 -- Why the sleepers' sum is that of processor 0's accepted gaps, as events and answers tell them: none of them is ever
 -- refused, as the desk's own sum has it too.
 -- Assumes nothing.
-use Rattle.std.proofs.Common.{◌≡◌, ℕ, ◌+◌, ◌≤◌, Bool, true, false, eqb, List, [], ◌∷◌, ◌++◌, sym, refl, ap, ◌∙◌, arith, eq-eqb, ne_eqb, le-leb}
+use Rattle.std.proofs.Common.{◌≡◌, ℕ, ◌+◌, ◌≤◌, Bool, true, false, eqb, List, [], ◌∷◌, ◌++◌, sym, refl, ap, ◌∙◌, arith, eq-eqb, ne_eqb, le-leb, if◌then◌else◌}
 use Rattle.rules.specs.declared.Event.{Event}
 use Rattle.rules.specs.declared.Arrival.{Arrival}
 use Rattle.rules.specs.declared.Action.{Action}
 use Rattle.rules.specs.declared.Answer.{Answer}
-use Rattle.rules.specs.Words.{if◌then◌else◌}
 use Rattle.rules.specs.Numbers.{time_limit}
 use Rattle.rules.specs.Machine.{Machine, turn}
 use Rattle.rules.specs.Rules as desk

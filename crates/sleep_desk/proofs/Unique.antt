@@ -1,9 +1,9 @@
 -- ONE RESULT: two results that meet the promise of an event are one. A REFUSED EVENT leaves both as they were, and the
 -- sleepers are told nothing.
 -- Assumes nothing.
-use Rattle.std.proofs.Common.{◌≡◌, ℕ, Bool, true, false, sym, refl, ap, ◌∙◌}
+use Rattle.std.proofs.Common.{◌≡◌, ℕ, Bool, true, false, sym, refl, ap, ◌∙◌, if◌then◌else◌}
 use Rattle.rules.specs.declared.Event.{Event}
-use Rattle.rules.specs.Words.{if◌then◌else◌, Single}
+use Rattle.rules.specs.Words.{Single}
 use Rattle.rules.specs.Numbers.{base_slots, base_sems, base_customers, no_such_processor}
 use Rattle.rules.specs.Machine as desk
 use Rattle.rules.specs.Machine.{turn}

@@ -1,6 +1,6 @@
 -- THE RULE BOOK of the desk with its sleepers: what one event tells the sleepers, in which order, and what is answered.
 -- The desk's rule book and the sleepers' stand as they are.
-use Rattle.std.specs.Prelude.{ℕ, Bool, true, false, ◌&&◌, List, [], ◌∷◌, ◌++◌, ℤ, pos, negsuc, ◌==◌}
+use Rattle.std.specs.Prelude.{ℕ, Bool, true, false, ◌&&◌, List, [], ◌∷◌, ◌++◌, ℤ, pos, negsuc, ◌==◌, if◌then◌else◌}
 use Rattle.rules.specs.declared.Event.{Event}
 use Rattle.rules.specs.declared.Event.TheVariants.{Call, Interrupt, Exception}
 use Rattle.rules.specs.declared.Arrival.{Arrival}
@@ -9,7 +9,6 @@ use Rattle.rules.specs.declared.Cause.TheVariants.{Tlb, General}
 use Rattle.rules.specs.declared.Action.{Action}
 use Rattle.rules.specs.declared.Action.TheVariants.{CarryOn, Run, Wait, Halt, Panic, PassUp, Nothing}
 use Rattle.rules.specs.declared.Answer.{Answer}
-use Rattle.rules.specs.Words.{if◌then◌else◌}
 use Rattle.rules.specs.Machine as desk
 use Rattle.rules.specs.Machine.{gap, turn}
 use Rattle.rules.specs.Answers as answers

@@ -1,5 +1,7 @@
 // The desk with its sleepers: one event takes both and hands both back, with both answers beside them. The rules are in
 // specs/Rules.antt, over the desk's own and those of crate sleeps.
+#![tactic(auto)]
+
 ghost use Rattle.std.specs.Prelude.{◌≡◌};
 ghost use Rattle.events.specs.Promised.{at_processor};
 ghost use Rattle.sleeping.specs.Promised.{view, Comes};
@@ -14,14 +16,14 @@ use std::num::wrapping_sub_u32;
 use verdicts::clock_of;
 
 // The desk's machine and the sleepers.
-#[derive(Drop)]
+#[derive(Clone, Copy)]
 pub struct Pair {
     pub machine: Machine,
     pub sleepers: Sleepers,
 }
 
 // The pair afterwards, the desk's answer, and the sleepers' answer.
-#[derive(Drop)]
+#[derive(Clone, Copy)]
 pub struct Served {
     pub pair: Pair,
     pub answer: rules::Answer,

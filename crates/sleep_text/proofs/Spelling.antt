@@ -1,5 +1,6 @@
 -- Numbers one behind the other, and how long the line of an answer is.
 -- Assumes nothing.
+use Rattle.std.specs.Prelude.{if◌then◌else◌}
 use mathlib.Core.Path.{◌≡◌, refl, sym, ap, ◌∙◌}
 use mathlib.Core.Bool.{Bool, true, false}
 use mathlib.Core.List.{List, [], ◌∷◌, ◌++◌, append_assoc, append-nil}
@@ -9,7 +10,7 @@ use native.Mathlib.Omega.{arith}
 use lib.Dec.{eqb}
 use lib.ListN.{length, take, get_or, length-append}
 use lib.Seq.{take-suc, length-take-le}
-use Rattle.rules.specs.Words.{if◌then◌else◌, All}
+use Rattle.rules.specs.Words.{All}
 use Rattle.report.specs.Text.{newline, space, decimal}
 use Rattle.report.proofs.Decimal.{length_within}
 use Rattle.sleeps.specs.declared.Follows.{Follows}
@@ -70,6 +71,11 @@ pub answer_within : (n : ℕ) (a : Answer) → n < 2 ^ 64 → a.refusal < 2 ^ 8 
 unfolding answer_line
 answer_within n a h r w =
     simp length-append (omega (arith, length_within n 19 (omega arith), length_within a.refusal 2 (omega arith), word_length a.refusal a.follows, spelt_length (take a.count a.woken) w.procs, length-take-le a.count a.woken (omega (arith, w.room, w.long)), w.room))
+
+-- the same, part by part: two blanks and the newline have a byte each
+pub answer_room : (n : ℕ) (a : Answer) → n < 2 ^ 64 → a.refusal < 2 ^ 8 → Whole a → length (decimal n) + length (decimal a.refusal) + length (word_of a.refusal a.follows) + length (spelt (take a.count a.woken)) + 3 ≤ longest
+answer_room n a h r w =
+    omega (arith, length_within n 19 (omega arith), length_within a.refusal 2 (omega arith), word_length a.refusal a.follows, spelt_length (take a.count a.woken) w.procs, length-take-le a.count a.woken (omega (arith, w.room, w.long)), w.room)
 
 -- what is left of the line behind each of its parts
 module _ (n : ℕ) (a : Answer) where

@@ -1,6 +1,5 @@
 -- An answer as the line that is written: "N REFUSAL WORD [U ..]", and a newline.
-use Rattle.std.specs.Prelude.{List, [], ◌∷◌, ◌++◌, ℕ, eqb, take}
-use Rattle.rules.specs.Words.{if◌then◌else◌}
+use Rattle.std.specs.Prelude.{List, [], ◌∷◌, ◌++◌, ℕ, eqb, take, if◌then◌else◌}
 use Rattle.report.specs.Text.{newline, space, decimal}
 use Rattle.sleeps.specs.declared.Follows.{Follows}
 use Rattle.sleeps.specs.declared.Follows.TheVariants.{Nothing, Sleeps, Ends, Wakes, Ended}

@@ -1,6 +1,5 @@
 -- What a line of the text says: "gap N", "ask U A1", "tick", "end U", numbers decimal, A1 also negative.
-use Rattle.std.specs.Prelude.{Bool, true, false, List, [], ◌∷◌, ℕ, zero, suc, ◌+◌, ◌-◌, ◌^◌, eqb, leb, length, take, drop}
-use Rattle.rules.specs.Words.{if◌then◌else◌}
+use Rattle.std.specs.Prelude.{Bool, true, false, List, [], ◌∷◌, ℕ, zero, suc, ◌+◌, ◌-◌, ◌^◌, eqb, leb, length, take, drop, if◌then◌else◌}
 use Rattle.words.specs.declared.Number.{Number}
 use Rattle.words.specs.declared.Number.TheVariants.{Is, Not}
 use Rattle.words.specs.Texts.{line_at, nth, same}

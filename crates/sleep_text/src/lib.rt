@@ -1,5 +1,7 @@
 // The text that tries the sleepers out: a line as an operation, and an answer as a line.
 //     gap N, ask U A1, tick, end U        numbers are decimal, A1 also negative
+#![tactic(auto)]
+
 ghost use Rattle.std.specs.Prelude.{◌≡◌, ◌+◌, ◌≤◌, length, take};
 ghost use Rattle.report.specs.Buffer.{Puts};
 ghost use Rattle.words.specs.Texts.{nth};
@@ -14,7 +16,7 @@ use sleeps::{Answer, Follows, Operation, PLACES};
 use words::{Number, absent_at, complain, decimal_at, line_at, same_at, signed_word_at, word_at};
 
 // What a line was expected to have.
-#[derive(Drop)]
+#[derive(Clone, Copy)]
 pub enum Wanted {
     Verb,
     Microseconds,
@@ -24,7 +26,7 @@ pub enum Wanted {
 }
 
 // What a line says: nothing, an operation, or that the word with so many before it is not what was expected.
-#[derive(Drop)]
+#[derive(Clone, Copy)]
 pub enum Parsed {
     Blank,
     Means(Operation),
@@ -106,7 +108,7 @@ pub fn parse(line: &[u8]) -> Parsed
 }
 
 // The first line that is not what was expected: its number, where it begins and ends, and what is wrong with it.
-#[derive(Drop)]
+#[derive(Clone, Copy)]
 pub enum Verdict {
     Fine,
     Wrong {

@@ -1,5 +1,6 @@
 -- The rows that the code finds by a walk are those that the rule book names.
 -- Assumes nothing.
+use Rattle.std.specs.Prelude.{if◌then◌else◌}
 use mathlib.Core.Path.{◌≡◌, refl, ap}
 use mathlib.Core.Bool.{Bool, true, false, not, ◌||◌}
 use mathlib.Core.List.{List, [], ◌∷◌}
@@ -8,7 +9,7 @@ use native.Mathlib.Omega.{arith}
 use lib.Dec.{leb, ltb}
 use lib.ListN.{length, take, drop}
 use borrow.Author.Tests.{leb-true, leb-false, lt-leb, lt-ltb, le-ltb}
-use Rattle.rules.specs.Words.{if◌then◌else◌, those, any, count, many, All}
+use Rattle.rules.specs.Words.{those, any, count, many, All}
 use Rattle.rules.proofs.Cases.{All-each}
 use Rattle.rules.proofs.Lines.{many_fail}
 use Rattle.sleeps.specs.Numbers.{last_proc}

@@ -9,7 +9,7 @@ use native.Mathlib.Omega.{arith}
 use lib.ListN.{length, take, drop, replicate, replicate-append-replicate}
 use lib.Seq.{length-take-le, drop-drop, take-take}
 use borrow.Author.Tests.{le-leb, lt-leb}
-use Rattle.rules.specs.Words.{those, count, All}
+use Rattle.rules.specs.Words.{those, All}
 use Rattle.rules.proofs.Cases.{All-those, All-over}
 use Rattle.rules.proofs.Lines.{count_le}
 use Rattle.rules.specs.Numbers.{time_limit, time_full}

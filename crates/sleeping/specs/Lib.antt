@@ -1,3 +1,3 @@
--- What the functions of this crate promise: Rows for the leaves, Contracts for the operations.
+-- What the functions of this crate promise: Rows for the leaves, Promised for the operations.
 pub mod Rows
 pub mod Promised

@@ -1,7 +1,6 @@
 -- Rows of sleepers as plain lists: what the leaf functions do to an array of which the first n places are sleepers
 -- and the others nought.
-use Rattle.std.specs.Prelude.{Bool, List, [], ◌∷◌, ◌++◌, map, ℕ, suc, ◌+◌, ◌-◌, leb, take, drop, replicate}
-use Rattle.rules.specs.Words.{if◌then◌else◌}
+use Rattle.std.specs.Prelude.{Bool, List, [], ◌∷◌, ◌++◌, map, ℕ, suc, ◌+◌, ◌-◌, leb, take, drop, replicate, if◌then◌else◌}
 use Rattle.sleeps.specs.Numbers.{places}
 use Rattle.sleeps.specs.Rules.{number_of}
 use Rattle.sleeps.specs.declared.Sleeper.{Sleeper}

@@ -1,5 +1,7 @@
 // The sleepers by value: each operation takes them and hands them back, with the answer beside them. The rules are
 // those of crate sleeps.
+#![tactic(auto)]
+
 ghost use Rattle.std.specs.Prelude.{◌≡◌, [], ◌+◌, ◌≤◌, ◌<◌, take, get_or};
 ghost use Rattle.sleeps.specs.Numbers.{places};
 ghost use Rattle.sleeps.specs.Rules.{outside, is, refused, answered, pass, ask, tick, end, step, nobody};
@@ -9,7 +11,7 @@ ghost use Rattle.sleeping.specs.Promised.{Good, view, Comes};
 use sleeps::{Answer, Follows, Operation, PLACES, Sleeper, Sleepers, Turn};
 
 // A place, or nothing.
-#[derive(Drop)]
+#[derive(Clone, Copy)]
 pub enum Found {
     At(usize),
     Nothing,

@@ -1,5 +1,6 @@
 -- One more sleeper in its place.
 -- Assumes nothing.
+use Rattle.std.specs.Prelude.{if◌then◌else◌}
 use mathlib.Core.Path.{◌≡◌, refl, sym, ap}
 use mathlib.Core.Bool.{Bool, true, false}
 use mathlib.Core.List.{List, [], ◌∷◌, ◌++◌, append-nil}
@@ -8,7 +9,7 @@ use native.Mathlib.Omega.{arith}
 use lib.Dec.{eqb, ltb}
 use lib.ListN.{length}
 use borrow.Author.Tests.{ltb-true, ltb-false, eqb-true, ne_eqb}
-use Rattle.rules.specs.Words.{if◌then◌else◌, those, sum, All}
+use Rattle.rules.specs.Words.{those, sum, All}
 use Rattle.rules.proofs.Cases.{All-each, All-those}
 use Rattle.sleeps.specs.declared.Sleeper.{Sleeper}
 use Rattle.sleeps.specs.Rules.{insert}

@@ -1,5 +1,6 @@
 -- Tests over lists: the first that passes, nobody, one.
 -- Assumes nothing.
+use Rattle.std.specs.Prelude.{cond, if◌then◌else◌}
 use mathlib.Core.Path.{◌≡◌, refl, sym, ap}
 use mathlib.Core.Bool.{Bool, true, false, not, ◌||◌, true≢false}
 use mathlib.Core.List.{List, [], ◌∷◌, map}
@@ -7,7 +8,7 @@ use Prim.Native.Nat.{ℕ, ◌+◌, ◌≤◌}
 use native.Mathlib.Omega.{arith}
 use lib.Dec.{eqb}
 use lib.ListN.{length}
-use Rattle.rules.specs.Words.{if◌then◌else◌, those, any, among, count, many}
+use Rattle.rules.specs.Words.{those, any, among, count, many}
 use Rattle.rules.proofs.Sums.{sum_split}
 
 module _ {ℓ} {A : Type ℓ} where
@@ -16,7 +17,7 @@ module _ {ℓ} {A : Type ℓ} where
   nobody_passes t [] h = refl
   nobody_passes t (x ∷ xs) h = go (t x) h (nobody_passes t xs)
     where
-      go : (b : Bool) → if b then x ∷ those t xs else those t xs ≡ [] → (those t xs ≡ [] → any t xs ≡ false) → b || any t xs ≡ false
+      go : (b : Bool) → cond b (x ∷ those t xs) (those t xs) ≡ [] → (those t xs ≡ [] → any t xs ≡ false) → b || any t xs ≡ false
       go true h ih = let z : ◌≡◌ {A = ℕ} 0 1 = cc in absurd (omega arith)
       go false h ih = ih h
 
@@ -24,7 +25,7 @@ module _ {ℓ} {A : Type ℓ} where
   none_passes t [] h = refl
   none_passes t (x ∷ xs) h = go (t x) h (none_passes t xs)
     where
-      go : (b : Bool) → b || any t xs ≡ false → (any t xs ≡ false → those t xs ≡ []) → if b then x ∷ those t xs else those t xs ≡ []
+      go : (b : Bool) → b || any t xs ≡ false → (any t xs ≡ false → those t xs ≡ []) → cond b (x ∷ those t xs) (those t xs) ≡ []
       go true h ih = absurd (true≢false h)
       go false h ih = ih h
 
@@ -32,7 +33,7 @@ module _ {ℓ} {A : Type ℓ} where
   one_passes t [] y ys h = let z : ◌≡◌ {A = ℕ} 0 1 = cc in absurd (omega arith)
   one_passes t (x ∷ xs) y ys h = go (t x) h (one_passes t xs y ys)
     where
-      go : (b : Bool) → if b then x ∷ those t xs else those t xs ≡ y ∷ ys → (those t xs ≡ y ∷ ys → any t xs ≡ true) → b || any t xs ≡ true
+      go : (b : Bool) → cond b (x ∷ those t xs) (those t xs) ≡ y ∷ ys → (those t xs ≡ y ∷ ys → any t xs ≡ true) → b || any t xs ≡ true
       go true h ih = refl
       go false h ih = ih h
 
@@ -41,7 +42,7 @@ module _ {ℓ} {A : Type ℓ} where
   many_is t [] = refl
   many_is t (x ∷ xs) = go (t x) (many_is t xs)
     where
-      go : (b : Bool) → many t xs ≡ length (those t xs) → count b + many t xs ≡ length (if b then x ∷ those t xs else those t xs)
+      go : (b : Bool) → many t xs ≡ length (those t xs) → count b + many t xs ≡ length (cond b (x ∷ those t xs) (those t xs))
       go true ih = omega arith
       go false ih = omega arith
 
@@ -63,7 +64,7 @@ module _ {ℓ} {A : Type ℓ} where
   length_split t (x ∷ xs) = go (t x) (length_split t xs)
     where
       go : (b : Bool) → length (those (λ x. not (t x)) xs) + length (those t xs) ≡ length xs
-          → length (if not b then x ∷ those (λ x. not (t x)) xs else those (λ x. not (t x)) xs) + length (if b then x ∷ those t xs else those t xs) ≡ length (x ∷ xs)
+          → length (cond (not b) (x ∷ those (λ x. not (t x)) xs) (those (λ x. not (t x)) xs)) + length (cond b (x ∷ those t xs) (those t xs)) ≡ length (x ∷ xs)
       go true ih = omega arith
       go false ih = omega arith
 
@@ -81,7 +82,7 @@ module _ {ℓ} {A : Type ℓ} where
   none_both t [] = refl
   none_both t (x ∷ xs) = go (t x) refl (none_both t xs)
     where
-      go : (b : Bool) → t x ≡ b → those t (those (λ y. not (t y)) xs) ≡ [] → those t (if not b then x ∷ those (λ y. not (t y)) xs else those (λ y. not (t y)) xs) ≡ []
+      go : (b : Bool) → t x ≡ b → those t (those (λ y. not (t y)) xs) ≡ [] → those t (cond (not b) (x ∷ those (λ y. not (t y)) xs) (those (λ y. not (t y)) xs)) ≡ []
       go true e ih = ih
       go false e ih = rw e ih
 
@@ -89,7 +90,7 @@ module _ {ℓ} {A : Type ℓ} where
   twice t [] = refl
   twice t (x ∷ xs) = go (t x) refl (twice t xs)
     where
-      go : (b : Bool) → t x ≡ b → those t (those t xs) ≡ those t xs → those t (if b then x ∷ those t xs else those t xs) ≡ if b then x ∷ those t xs else those t xs
+      go : (b : Bool) → t x ≡ b → those t (those t xs) ≡ those t xs → those t (cond b (x ∷ those t xs) (those t xs)) ≡ cond b (x ∷ those t xs) (those t xs)
       go true e ih = rw (e, ih)
       go false e ih = ih
 
@@ -97,6 +98,6 @@ module _ {ℓ} {A : Type ℓ} where
   passes_first t [] y ys h = let z : ◌≡◌ {A = ℕ} 0 1 = cc in absurd (omega arith)
   passes_first t (x ∷ xs) y ys h = go (t x) refl h (passes_first t xs y ys)
     where
-      go : (b : Bool) → t x ≡ b → if b then x ∷ those t xs else those t xs ≡ y ∷ ys → (those t xs ≡ y ∷ ys → t y ≡ true) → t y ≡ true
+      go : (b : Bool) → t x ≡ b → cond b (x ∷ those t xs) (those t xs) ≡ y ∷ ys → (those t xs ≡ y ∷ ys → t y ≡ true) → t y ≡ true
       go true e h ih = let z : x ≡ y = cc in rw (← z) e
       go false e h ih = ih h

@@ -1,5 +1,6 @@
 -- A sleep is over at the moment that the rules foretell, and once.
 -- Assumes nothing.
+use Rattle.std.specs.Prelude.{if◌then◌else◌}
 use mathlib.Core.Path.{◌≡◌, refl, sym, ap, ◌∙◌}
 use mathlib.Core.Bool.{Bool, true, false, not, true≢false}
 use mathlib.Core.List.{List, [], ◌∷◌}
@@ -8,7 +9,7 @@ use native.Mathlib.Omega.{arith}
 use lib.Dec.{eqb, leb}
 use lib.ListN.{length}
 use borrow.Author.Tests.{eqb-true, eqb-false, ne_eqb}
-use Rattle.rules.specs.Words.{if◌then◌else◌, those, among, count, many}
+use Rattle.rules.specs.Words.{those, among, count, many}
 use Rattle.rules.proofs.Cases.{if_cases}
 use Rattle.rules.proofs.Lines.{those_those}
 use Rattle.rules.specs.Numbers.{time_limit, time_full}

@@ -1,6 +1,6 @@
 -- THE RULE BOOK of sleeping: 02, (x), as short definitions that compute.
-use Rattle.std.specs.Prelude.{Bool, not, ◌&&◌, List, [], ◌∷◌, map, ℕ, ◌+◌, ◌*◌, eqb, leb, ltb}
-use Rattle.rules.specs.Words.{if◌then◌else◌, those, any}
+use Rattle.std.specs.Prelude.{Bool, not, ◌&&◌, List, [], ◌∷◌, map, ℕ, ◌+◌, ◌*◌, eqb, leb, ltb, if◌then◌else◌}
+use Rattle.rules.specs.Words.{those, any}
 use Rattle.rules.specs.Numbers.{time_limit, time_full}
 use Rattle.sleeps.specs.Numbers.{first_proc, last_proc, no_such_proc, asleep_already, sign, second}
 use Rattle.sleeps.specs.declared.Operation.{Operation}

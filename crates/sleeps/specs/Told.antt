@@ -1,6 +1,6 @@
 -- What the operations and the answers tell, with no sleepers in sight.
-use Rattle.std.specs.Prelude.{Bool, true, false, not, ◌&&◌, ◌||◌, List, [], ◌∷◌, ◌++◌, ℕ, suc, ◌+◌, ◌*◌, eqb, leb, length}
-use Rattle.rules.specs.Words.{if◌then◌else◌, those, among, sum, many}
+use Rattle.std.specs.Prelude.{Bool, true, false, not, ◌&&◌, ◌||◌, List, [], ◌∷◌, ◌++◌, ℕ, suc, ◌+◌, ◌*◌, eqb, leb, length, if◌then◌else◌}
+use Rattle.rules.specs.Words.{those, among, sum, many}
 use Rattle.rules.specs.Numbers.{time_limit}
 use Rattle.sleeps.specs.Numbers.{second}
 use Rattle.sleeps.specs.declared.Operation.{Operation}

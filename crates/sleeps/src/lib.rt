@@ -1,11 +1,12 @@
 // What may happen to the sleepers, and what is answered. The rules are in specs/Rules.antt.
+#![tactic(auto)]
 
 // "eight at most"
 pub const PLACES: usize = 8;
 
 // What may happen: a gap passes, in microseconds; a U-proc asks to sleep, by its number and a1; a tick of the
 // pseudo-clock; a U-proc has ended.
-#[derive(Drop)]
+#[derive(Clone, Copy)]
 pub enum Operation {
     Gap(u64),
     Ask(u32, u32),
@@ -14,7 +15,7 @@ pub enum Operation {
 }
 
 // What follows: the U-proc sleeps; it is to be ended; some are woken; one ended while asleep; or nothing.
-#[derive(Drop)]
+#[derive(Clone, Copy)]
 pub enum Follows {
     Nothing,
     Sleeps,
@@ -24,14 +25,14 @@ pub enum Follows {
 }
 
 // One who sleeps: its wake time, in microseconds of the sum of gaps, and its U-proc number.
-#[derive(Drop)]
+#[derive(Clone, Copy)]
 pub struct Sleeper {
     pub wake: u64,
     pub number: u32,
 }
 
 // The sum of the gaps, and those asleep, by wake time: the first `count` rows. The other rows are nought.
-#[derive(Drop)]
+#[derive(Clone, Copy)]
 pub struct Sleepers {
     pub sum: u64,
     pub count: usize,
@@ -40,7 +41,7 @@ pub struct Sleepers {
 
 // The refusal or 0, what follows, and the U-procs woken, soonest first: the first `count` of them. The others are
 // nought.
-#[derive(Drop)]
+#[derive(Clone, Copy)]
 pub struct Answer {
     pub refusal: u8,
     pub follows: Follows,
@@ -49,7 +50,7 @@ pub struct Answer {
 }
 
 // The answer, and the sleepers afterwards.
-#[derive(Drop)]
+#[derive(Clone, Copy)]
 pub struct Turn {
     pub answer: Answer,
     pub sleepers: Sleepers,

@@ -1,14 +1,14 @@
 -- Laws of rows and sheets, over plain lists.
-use mathlib.Core.Path.{◌≡◌, refl, sym, ◌∙◌, ap, subst}
-use mathlib.Core.Bool.{Bool, true, false, not}
-use mathlib.Core.Logic.{◌≢◌, ◌⊎◌, inl, inr}
+use mathlib.Core.Path.{◌≡◌, refl, ◌∙◌, ap}
+use mathlib.Core.Bool.{Bool, true, false}
+use mathlib.Core.Logic.{◌⊎◌, inl, inr}
 use lib.Dec.{ltb}
 use borrow.Author.Tests.{ltb-true, ltb-false, lt-ltb, le-ltb}
 use Prim.Native.Nat.{ℕ, zero, suc, ◌+◌, ◌*◌, ◌≤◌, ◌<◌, ◌^◌}
-use native.Mathlib.Nat.{not-suc-le-zero, le_of_suc-le-suc, le_trans}
+use native.Mathlib.Nat.{not-suc-le-zero, le_of_suc-le-suc}
 use native.Mathlib.Omega.{arith}
 use mathlib.Core.List.{List, [], ◌∷◌}
-use lib.ListN.{length, take, drop, set, get_or, length-set}
+use lib.ListN.{length, take, set, get_or}
 use Rattle.pages.specs.declared.Row.{Row}
 use Rattle.pages.specs.Numbers.{frames}
 use Rattle.pages.specs.Rules.{free}
@@ -70,6 +70,13 @@ sheet_whole l = rw (take_all l) refl
 pub sheet_none : (l : List Row) → sheet_of [] ≡ sheet_at l 0
 sheet_none l = refl
 
+-- one row more is read
+pub read_more : (l : List Row) (s r : Sheet) (x : Row) → s ≡ sheet_at l s.count → s.count < length l → x ≡ get_or l s.count free → r ≡ put x s → (r ≡ sheet_at l r.count) × (r.count ≤ length l)
+read_more l s r x p h k q = rw e (refl, h)
+  where
+    e : r ≡ sheet_at l (suc s.count)
+    e = q ∙ ap (λ (z : Row). put z s) k ∙ ap (λ (z : Sheet). put (get_or l s.count free) z) p ∙ sheet_more l s.count h
+
 -- the first sixteen of the rows, as the sheet has them
 pub sheet_rows : (n : ℕ) (l : List Row) → take (length l) (fill n l) ≡ take n l
 unfolding fill
@@ -113,6 +120,12 @@ mixed_more i [] rs h k = absurd (not-suc-le-zero h)
 mixed_more i (y ∷ ys) [] h k = absurd (not-suc-le-zero k)
 mixed_more zero (y ∷ ys) (r ∷ rs) h k = refl
 mixed_more (suc i) (y ∷ ys) (r ∷ rs) h k = ap (λ (l : List Row). r ∷ l) (mixed_more i ys rs (le_of_suc-le-suc h) (le_of_suc-le-suc k))
+
+-- one row more is written
+pub mixed_next : (i n : ℕ) (ys rs l r : List Row) (x : Row) → n ≡ up_to_16 (length ys) → i < n → length rs ≡ frames → l ≡ mixed i ys rs → x ≡ get_or rs i free → r ≡ set l i x → r ≡ mixed (i + 1) ys rs
+mixed_next i n ys rs l r x m h e p k q =
+    let z = up_to_least (length ys) in
+    rw (q, k, p, add_one i) (mixed_more i ys rs (omega arith) (omega arith))
 
 pub mixed_all : (i : ℕ) (ys rs : List Row) → (length ys ≤ i) ⊎ (length rs ≤ i) → mixed i ys rs ≡ over ys rs
 mixed_all zero [] rs h = refl

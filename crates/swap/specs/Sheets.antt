@@ -1,6 +1,5 @@
 -- What the lent rows mean: a list of rows, and a sheet of the first sixteen of them.
-use Rattle.std.specs.Prelude.{true, false, List, [], ◌∷◌, ℕ, zero, suc, ◌+◌, ltb, length, get_or, set}
-use Rattle.rules.specs.Words.{if◌then◌else◌}
+use Rattle.std.specs.Prelude.{List, [], ◌∷◌, ℕ, zero, suc, ◌+◌, ltb, length, get_or, set, if◌then◌else◌}
 use Rattle.pages.specs.declared.Row.{Row}
 use Rattle.pages.specs.Numbers.{frames}
 use Rattle.pages.specs.Rules.{free}

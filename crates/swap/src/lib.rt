@@ -1,6 +1,8 @@
 // The swap table as the desk lends it: "one row a frame, to be read and changed where it lies". Functions over such a
 // slice are few and thin: each reads or writes rows where they lie, and leaves the work to a covered function over a
 // sheet, which holds sixteen rows by value.
+#![tactic(auto)]
+
 ghost use Rattle.std.specs.Prelude.{◌≡◌, [], ◌+◌, ◌<◌, ◌^◌, length, take, set};
 ghost use Rattle.pages.specs.Numbers.{frames};
 ghost use Rattle.pages.specs.Rules.{names, first_frame};
@@ -10,7 +12,7 @@ use pages::{FRAMES, Found, Row};
 use pool::first_named;
 
 // Sixteen rows, and how many there were.
-#[derive(Drop)]
+#[derive(Clone, Copy)]
 pub struct Sheet {
     pub rows: [Row; FRAMES],
     pub count: usize,

@@ -1,12 +1,12 @@
 -- Who runs on the other processors, by the codes of their seats.
 -- Assumes nothing.
-use Rattle.std.proofs.Common.{◌≡◌, ℕ, zero, suc, ◌+◌, ◌<◌, ◌≤◌, Bool, true, false, ltb, List, [], ◌∷◌, ◌++◌, map, length, get_or, set, sym, refl, ap, ◌∙◌, ap₂, arith, ltb-true, le-ltb, lt-ltb}
+use Rattle.std.proofs.Common.{◌≡◌, ℕ, zero, suc, ◌+◌, ◌<◌, ◌≤◌, Bool, true, false, ltb, List, [], ◌∷◌, ◌++◌, map, length, get_or, set, sym, refl, ap, ◌∙◌, ap₂, arith, ltb-true, lt-ltb, if◌then◌else◌}
 use mathlib.Core.List.{map-append}
-use Rattle.rules.specs.Words.{if◌then◌else◌, those}
+use Rattle.rules.specs.Words.{those}
 use Rattle.rules.proofs.Lines.{those_append}
 use Rattle.rules.specs.Numbers.{base_slots}
 use Rattle.rules.specs.Machine.{Process, Seat, seated_in}
-use Rattle.lines.specs.Lines.{InSlots, occ, one, marked, alive, struck}
+use Rattle.lines.specs.Lines.{InSlots, occ, marked, alive, struck}
 use Rattle.lines.proofs.Occ.{occ_append, one_same}
 use Rattle.lines.proofs.Bridge.{slots_append}
 use Rattle.seats.specs.Seats.{table, held_slot, seat, InSeats, held_by, leaving_of}

@@ -1,8 +1,7 @@
 -- The machines that are made from nothing, a fresh one and the one beside a refused start, obey the rule.
 -- Assumes nothing.
-use Rattle.std.proofs.Common.{◌≡◌, ℕ, zero, suc, ◌+◌, ◌-◌, ◌<◌, ◌≤◌, Bool, true, false, ltb, ◌≢◌, List, [], ◌∷◌, length, get_or, set, replicate, sym, refl, ap, ◌∙◌, ap₂, arith, ltb-false, ltb-true, le-ltb, lt-ltb}
+use Rattle.std.proofs.Common.{◌≡◌, ℕ, zero, suc, ◌+◌, ◌-◌, ◌<◌, ◌≤◌, Bool, true, false, ltb, ◌≢◌, List, [], ◌∷◌, length, get_or, set, replicate, sym, refl, ap, ◌∙◌, ap₂, arith, ltb-false, ltb-true, le-ltb, lt-ltb, if◌then◌else◌}
 use Rattle.rules.specs.Numbers.{base_slots, base_sems, base_customers, most_processors}
-use Rattle.rules.specs.Words.{if◌then◌else◌}
 use Rattle.rules.specs.Machine as book
 use Rattle.rules.specs.Machine.{Seat, On, origin, blank, idle_from, fresh}
 use Rattle.rules.specs.Rules.{rule_book}

@@ -1,9 +1,9 @@
 -- Who runs next, over machines alone: the first in the ready line; halt, wait or panic; or whoever runs carries on.
 -- Assumes nothing.
-use Rattle.std.proofs.Common.{◌≡◌, ℕ, ◌<◌, ◌≤◌, Bool, true, false, List, [], ◌∷◌, ◌++◌, map, length, get_or, take, sym, refl, ap, ◌∙◌, true≢false, arith, rules}
+use Rattle.std.proofs.Common.{◌≡◌, ℕ, ◌<◌, ◌≤◌, Bool, true, false, List, [], ◌∷◌, ◌++◌, map, length, get_or, take, sym, refl, ap, ◌∙◌, true≢false, arith, rules, if◌then◌else◌}
 use Rattle.rules.specs.declared.Answer.{Answer}
 use Rattle.rules.specs.declared.Action.TheVariants.{CarryOn, Run, Wait, Halt, Panic}
-use Rattle.rules.specs.Words.{if◌then◌else◌, first}
+use Rattle.rules.specs.Words.{first}
 use Rattle.rules.specs.Numbers.{base_slots}
 use Rattle.rules.specs.Machine as book
 use Rattle.rules.specs.Machine.{Process, Waiter, seated_in, living, counted, takes_low, next_of, dispatch}

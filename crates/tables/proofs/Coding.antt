@@ -1,11 +1,10 @@
 -- A code stands for one line: what the tests of the rule book are on codes.
 -- Assumes nothing.
-use Rattle.std.proofs.Common.{◌≡◌, ℕ, ◌+◌, ◌-◌, ◌<◌, ◌≤◌, Bool, true, false, ◌&&◌, eqb, ltb, leb, sym, refl, ap, ◌∙◌, true≢false, arith, ltb-false, lt-ltb, eq-eqb, ne_eqb, eqb-true, le-leb, leb-false, leb-true}
+use Rattle.std.proofs.Common.{◌≡◌, ℕ, ◌+◌, ◌-◌, ◌<◌, ◌≤◌, Bool, true, false, ◌&&◌, eqb, ltb, leb, sym, refl, ap, ◌∙◌, true≢false, arith, ltb-false, lt-ltb, eq-eqb, ne_eqb, eqb-true, le-leb, leb-false, leb-true, if◌then◌else◌}
 use native.Mathlib.Decide.{ℕ_discrete}
 use borrow.Author.Tests.{lt-leb}
 use Rattle.rules.specs.declared.Line.{Line}
 use Rattle.rules.specs.declared.Line.TheVariants.{Semaphore, Device, PseudoClock}
-use Rattle.rules.specs.Words.{if◌then◌else◌}
 use Rattle.rules.specs.Numbers.{base_sems, sub_devices}
 use Rattle.rules.specs.Machine.{same_line, nucleus}
 use Rattle.tables.specs.Codes.{encode, decode, last_code}

@@ -1,8 +1,8 @@
 -- A kill, over machines alone: the family's rows are struck, and both lines and the processors lose who is of it.
 -- Assumes nothing.
-use Rattle.std.proofs.Common.{◌≡◌, ℕ, zero, suc, ◌+◌, ◌-◌, ◌^◌, ◌<◌, ◌≤◌, Bool, true, false, not, leb, List, ◌∷◌, ◌++◌, map, length, get_or, sym, refl, ap, ◌∙◌, ap₂, true≢false, arith, le-ltb, lt-ltb, ne_eqb, leb-false, leb-true}
+use Rattle.std.proofs.Common.{◌≡◌, ℕ, zero, suc, ◌+◌, ◌-◌, ◌^◌, ◌<◌, ◌≤◌, Bool, true, false, not, leb, List, ◌∷◌, ◌++◌, map, length, get_or, sym, refl, ap, ◌∙◌, ap₂, true≢false, arith, le-ltb, lt-ltb, ne_eqb, leb-false, leb-true, if◌then◌else◌}
 use borrow.Author.Tests.{lt-leb}
-use Rattle.rules.specs.Words.{if◌then◌else◌, those, among, sum, All}
+use Rattle.rules.specs.Words.{those, among, sum, All}
 use Rattle.rules.proofs.Cases.{All-left, All-right}
 use Rattle.rules.specs.Numbers.{base_slots, most_processors, time_limit}
 use Rattle.rules.proofs.Sums.{sum_over}

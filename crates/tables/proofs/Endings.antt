@@ -11,7 +11,6 @@ use Rattle.rules.specs.Machine as book
 use Rattle.rules.specs.Machine.{Process, family_of, kill}
 use Rattle.rules.specs.Answers.{Outcome, mask, left_idle, plain, doing}
 use Rattle.rules.specs.Rules.{schedule, die, pass_up_or_die}
-use Rattle.lines.specs.declared.Found.TheVariants as found
 use Rattle.tables.specs.declared.Tables.{Tables}
 use Rattle.tables.specs.declared.Settled.{Settled}
 use Rattle.tables.specs.declared.Killed.{Killed}

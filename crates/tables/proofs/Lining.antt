@@ -1,9 +1,9 @@
 -- Some join their ready lines, each at the end of its own, over tables alone: one law for a newborn, for who is woken
 -- and for who goes back.
 -- Assumes nothing.
-use Rattle.std.proofs.Common.{◌≡◌, ℕ, ◌+◌, ◌<◌, ◌≤◌, Bool, true, false, not, List, [], ◌∷◌, ◌++◌, map, length, take, set, sym, ap, ◌∙◌, ap₂, arith}
+use Rattle.std.proofs.Common.{◌≡◌, ℕ, ◌+◌, ◌<◌, ◌≤◌, Bool, true, false, not, List, [], ◌∷◌, ◌++◌, map, length, take, set, sym, ap, ◌∙◌, ap₂, arith, if◌then◌else◌}
 use mathlib.Core.List.{map-append}
-use Rattle.rules.specs.Words.{if◌then◌else◌, those}
+use Rattle.rules.specs.Words.{those}
 use Rattle.rules.specs.Numbers.{base_slots}
 use Rattle.rules.specs.Machine as book
 use Rattle.rules.specs.Machine.{Process, with_ready, is_high}

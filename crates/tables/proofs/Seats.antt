@@ -1,13 +1,12 @@
 -- Who sits where: the living by their slots, and the parts of the rule book's machine by the tables.
 -- Assumes nothing.
-use Rattle.std.proofs.Common.{◌≡◌, ℕ, zero, suc, ◌+◌, ◌-◌, ◌<◌, ◌≤◌, Bool, true, false, eqb, ltb, List, [], ◌∷◌, ◌++◌, map, length, get_or, sym, refl, ap, ◌∙◌, ap₂, arith, length-append, ltb-true, le-ltb, lt-ltb, ne_eqb}
+use Rattle.std.proofs.Common.{◌≡◌, ℕ, zero, suc, ◌+◌, ◌<◌, ◌≤◌, Bool, true, false, eqb, ltb, List, [], ◌∷◌, ◌++◌, map, length, get_or, sym, refl, ap, ◌∙◌, ap₂, arith, length-append, ltb-true, le-ltb, lt-ltb, ne_eqb, if◌then◌else◌}
 use mathlib.Core.List.{map-append}
 use native.Mathlib.Decide.{ℕ_discrete}
 use Rattle.rules.specs.declared.Line.{Line}
-use Rattle.rules.specs.Words.{if◌then◌else◌, those, any, sum, count, All}
+use Rattle.rules.specs.Words.{those, any, sum, count, All}
 use Rattle.rules.proofs.Sums.{sum_over}
 use Rattle.rules.specs.Numbers.{base_slots, base_sems}
-use Rattle.rules.specs.Machine as book
 use Rattle.rules.specs.Machine.{Process, Waiter, living, living_of, at, line, nucleus, nucleus_waits}
 use Rattle.lines.specs.Lines.{InSlots, occ, in_lines, members_of}
 use Rattle.lines.proofs.Occ.{occ_append, one_same, length_occ, tally_le, tally_ones}

@@ -1,8 +1,8 @@
 -- All who wait for the pseudo-clock become ready, over machines alone.
 -- Assumes nothing.
-use Rattle.std.proofs.Common.{◌≡◌, ℕ, ◌+◌, ◌-◌, ◌^◌, ◌<◌, ◌≤◌, Bool, true, false, not, ◌&&◌, eqb, List, [], ◌∷◌, map, length, get_or, sym, refl, ap, ◌∙◌, subst, ap₂, arith, eqb-true}
+use Rattle.std.proofs.Common.{◌≡◌, ℕ, ◌+◌, ◌^◌, ◌<◌, ◌≤◌, Bool, true, false, not, ◌&&◌, eqb, List, [], ◌∷◌, map, length, get_or, sym, refl, ap, ◌∙◌, subst, ap₂, arith, eqb-true, if◌then◌else◌}
 use Rattle.rules.specs.declared.Line.TheVariants.{PseudoClock}
-use Rattle.rules.specs.Words.{if◌then◌else◌, those}
+use Rattle.rules.specs.Words.{those}
 use Rattle.rules.proofs.Sums.{sum_over}
 use Rattle.rules.specs.Numbers.{base_slots}
 use Rattle.rules.specs.Machine as book

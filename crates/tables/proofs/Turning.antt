@@ -1,14 +1,12 @@
 -- The machine turns to a processor, over machines alone: what is here and what is in a seat change places.
 -- Assumes nothing.
-use Rattle.std.proofs.Common.{◌≡◌, ℕ, zero, suc, ◌+◌, ◌<◌, ◌≤◌, ◌≢◌, List, [], ◌∷◌, map, length, get_or, set, sym, refl, ap, ◌∙◌, ap₂, arith, length-set, get_or-set_other, get_or-set_same, lt-ltb}
+use Rattle.std.proofs.Common.{◌≡◌, ℕ, zero, suc, ◌<◌, ◌≤◌, ◌≢◌, List, [], ◌∷◌, map, length, get_or, set, sym, refl, ap, ◌∙◌, ap₂, arith, length-set, get_or-set_other, get_or-set_same, lt-ltb}
 use Rattle.rules.specs.Numbers.{base_slots, most_processors}
-use Rattle.rules.specs.Machine as book
 use Rattle.rules.specs.Machine.{Process, Seat, with_seat, blank, here, turn}
-use Rattle.lines.specs.Lines.{occ, entry, tally}
-use Rattle.seats.specs.Seats.{table, held_slot, seat, InSeats}
+use Rattle.lines.specs.Lines.{occ}
 use Rattle.seats.proofs.Tabled.{table_long, table_get, table_set}
 use Rattle.tables.specs.declared.Tables.{Tables}
-use Rattle.tables.specs.View.{row, occupant, away, code_of, slot_of, seat_at, seats, view, live, Shape}
+use Rattle.tables.specs.View.{row, code_of, slot_of, seat_at, seats, view, Shape}
 use Rattle.tables.specs.Promised.{Step}
 use Rattle.tables.proofs.Away.{occupant_slot, held_code, code_low, slot_low, away_set}
 use Rattle.tables.proofs.Seats.{occ_seats}

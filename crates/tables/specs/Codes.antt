@@ -1,8 +1,7 @@
 -- How a waiting line and a status are written in a byte: the one table of codes.
-use Rattle.std.specs.Prelude.{ℕ, zero, suc, ◌+◌, ◌-◌, nat_le, nat_lt}
+use Rattle.std.specs.Prelude.{ℕ, zero, suc, ◌+◌, ◌-◌, nat_le, nat_lt, if◌then◌else◌}
 use Rattle.rules.specs.declared.Line.{Line}
 use Rattle.rules.specs.declared.Line.TheVariants.{Semaphore, Device, PseudoClock}
-use Rattle.rules.specs.Words.{if◌then◌else◌}
 use Rattle.rules.specs.Numbers.{base_sems, sub_devices}
 use Rattle.rules.specs.Machine.{Status, On, Halted, Panicked}
 

@@ -1,9 +1,8 @@
 -- The machine of the rule book that the tables stand for, and the rule that they obey.
-use Rattle.std.specs.Prelude.{◌≡◌, ℕ, zero, suc, ◌+◌, ◌<◌, ◌≤◌, List, [], ◌∷◌, ◌++◌, map, length, take, ◌==◌, nat_lt, slice_index}
+use Rattle.std.specs.Prelude.{◌≡◌, ℕ, zero, suc, ◌+◌, ◌<◌, ◌≤◌, List, [], ◌∷◌, ◌++◌, map, length, take, ◌==◌, nat_lt, slice_index, if◌then◌else◌}
 use Rattle.rules.specs.Machine as book
 use Rattle.rules.specs.Machine.{Process, Waiter, Seat}
 use Rattle.rules.specs.Numbers.{base_slots, base_sems, base_customers, most_processors, time_limit}
-use Rattle.rules.specs.Words.{if◌then◌else◌}
 use Rattle.lines.specs.Lines.{Line, occ, entry, tally, mask_of_taken}
 use Rattle.rules.specs.Tables as rule
 use Rattle.kin.specs.Families.{elders, Kin}

@@ -2,6 +2,8 @@
 // ends.
 // The fields are public to the product's own crates alone; a host has a machine of crates/desk, whose tables are
 // private.
+#![tactic(auto)]
+
 use rules::{Answer, CUSTOMERS, DEVICES, PROCESSORS, SEMAPHORES, SLOTS};
 
 mod charges;
@@ -32,7 +34,7 @@ pub const PANICKED: u8 = 2;
 // have alive. Of the processor whose event is in hand: who runs (the number of slots stands for nobody), the last clock
 // reading, idle time. The same by processor, who runs being its slot and one more (0 is nobody); and how many
 // processors there are. Free rows and unused places are zero.
-#[derive(Drop)]
+#[derive(Clone, Copy)]
 pub struct Tables {
     pub ids: [u32; SLOTS],
     pub taken: u64,
@@ -65,21 +67,21 @@ pub struct Tables {
 }
 
 // The tables handed back, with the answer beside them.
-#[derive(Drop)]
+#[derive(Clone, Copy)]
 pub struct Settled {
     pub tables: Tables,
     pub answer: Answer,
 }
 
 // The tables, and the mask of who became ready.
-#[derive(Drop)]
+#[derive(Clone, Copy)]
 pub struct Woken {
     pub tables: Tables,
     pub woken: u64,
 }
 
 // The tables, the mask of who ended, and that of the processors left idle.
-#[derive(Drop)]
+#[derive(Clone, Copy)]
 pub struct Killed {
     pub tables: Tables,
     pub ended: u64,

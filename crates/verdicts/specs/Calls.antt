@@ -1,6 +1,5 @@
 -- The ten calls by their numbers.
-use Rattle.std.specs.Prelude.{ℕ, suc, ltb, ℤ, pos, negsuc}
-use Rattle.rules.specs.Words.{if◌then◌else◌}
+use Rattle.std.specs.Prelude.{ℕ, suc, ltb, ℤ, pos, negsuc, if◌then◌else◌}
 
 -- the ten calls −1 to −10 are 1 to 10; any other a0 is 0
 abbrev pub call_code : ℤ → ℕ

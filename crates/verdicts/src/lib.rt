@@ -1,8 +1,9 @@
 // What an event asks, by the event alone: its clock reading, whether any machine takes it, whether somebody must be
 // running, which call, whose child, and which sub-device.
-ghost use Rattle.std.specs.Prelude.{◌≡◌, false, ◌&&◌, ◌<◌, ◌≤◌, eqb, leb};
+#![tactic(auto)]
+
+ghost use Rattle.std.specs.Prelude.{◌≡◌, false, ◌&&◌, ◌<◌, ◌≤◌, eqb, leb, if◌then◌else◌};
 ghost use Rattle.rules.specs.Numbers.{base_slots, sub_devices, no_such_line, no_such_code};
-ghost use Rattle.rules.specs.Words.{if◌then◌else◌};
 ghost use Rattle.rules.specs.Machine.{child_of};
 ghost use Rattle.rules.specs.declared.Event.TheVariants.{Interrupt, Exception};
 ghost use Rattle.rules.specs.Rules.{clock, bad_line, bad_code, needs_runner, lowest_bit, sub_device};

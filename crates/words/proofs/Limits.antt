@@ -1,5 +1,6 @@
 -- What callers use of a number: it is not above the limit.
 -- Assumes nothing.
+use Rattle.std.specs.Prelude.{if◌then◌else◌}
 use mathlib.Core.Path.{◌≡◌, refl, sym, ap, ◌∙◌}
 use mathlib.Core.Bool.{Bool, true, false, ◌&&◌}
 use mathlib.Core.List.{List}
@@ -8,7 +9,6 @@ use native.Mathlib.Omega.{arith}
 use lib.Dec.{eqb, leb, ltb}
 use lib.ListN.{length, take, drop, get_or}
 use borrow.Author.Tests.{leb-true, lt-ltb, eq-eqb}
-use Rattle.rules.specs.Words.{if◌then◌else◌}
 use Rattle.rules.proofs.Cases.{and_right}
 use Rattle.report.specs.Text.{minus}
 use Rattle.words.specs.declared.Number.{Number}

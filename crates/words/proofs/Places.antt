@@ -1,5 +1,6 @@
 -- A word and a line stand within their text, and a line takes a byte at least.
 -- Assumes nothing.
+use Rattle.std.specs.Prelude.{if◌then◌else◌}
 use mathlib.Core.Path.{◌≡◌, refl, sym, ◌∙◌}
 use mathlib.Core.Bool.{Bool, true, false}
 use mathlib.Core.List.{List, [], ◌∷◌}
@@ -9,7 +10,6 @@ use lib.Dec.{eqb, ltb}
 use lib.ListN.{length, drop, length-drop}
 use lib.Seq.{length-take-le}
 use borrow.Author.Tests.{eq-eqb, ne_eqb, eqb-true, eqb-false, ltb-true, ltb-false}
-use Rattle.rules.specs.Words.{if◌then◌else◌}
 use Rattle.words.specs.declared.Class.{Class}
 use Rattle.words.specs.declared.Class.TheVariants.{Blank, Solid, Content, Row}
 use Rattle.words.specs.declared.Word.{Word}

@@ -24,6 +24,10 @@ unfolding complaint
 complaint_within n word expected h =
     simp length-append (omega (arith, length_within n 19 (omega arith), shown_within word))
 
+-- the same, by the two parts whose length is not fixed: the others have 27 bytes, beside what was expected
+pub complaint_room : (n : ℕ) (word expected : List ℕ) → n < 2 ^ 64 → length (decimal n) + length (shown word) + 27 ≤ around
+complaint_room n word expected h = omega (arith, length_within n 19 (omega arith), shown_within word)
+
 -- what is left of a complaint behind each of its parts
 module _ (n : ℕ) (word expected : List ℕ) where
   abbrev pub end : List ℕ

@@ -1,5 +1,6 @@
 -- Digits one after the other: a turn of the loop that reads a number, over plain lists.
 -- Assumes nothing.
+use Rattle.std.specs.Prelude.{if◌then◌else◌}
 use mathlib.Core.Path.{◌≡◌, refl}
 use mathlib.Core.Bool.{Bool, true, false, ◌&&◌}
 use mathlib.Core.List.{List, [], ◌∷◌}
@@ -10,7 +11,6 @@ use native.Mathlib.Omega.{arith}
 use lib.ListN.{length, drop, get_or, drop_of_length-le}
 use lib.Seq.{drop-cons}
 use borrow.Author.Tests.{lt-ltb, le-ltb, le-leb, lt-leb}
-use Rattle.rules.specs.Words.{if◌then◌else◌}
 use Rattle.words.specs.declared.Number.{Number}
 use Rattle.words.specs.declared.Number.TheVariants.{Is, Not}
 use Rattle.words.specs.Figures.{digit_value, all_digits, value, more_of}

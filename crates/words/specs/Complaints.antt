@@ -1,6 +1,5 @@
 -- What a program says of a bad line: "line N: found 'WORD', expected TEXT", and a newline.
-use Rattle.std.specs.Prelude.{◌≡◌, List, [], ◌∷◌, ◌++◌, ℕ, leb, length, take, drop}
-use Rattle.rules.specs.Words.{if◌then◌else◌}
+use Rattle.std.specs.Prelude.{◌≡◌, List, [], ◌∷◌, ◌++◌, ℕ, leb, length, take, drop, if◌then◌else◌}
 use Rattle.report.specs.Text.{newline, decimal}
 use Rattle.report.specs.declared.Written.{Written}
 use Rattle.report.specs.declared.Written.TheVariants.{Bytes, NoRoom}

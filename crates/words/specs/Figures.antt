@@ -1,6 +1,5 @@
 -- Words that say a number.
-use Rattle.std.specs.Prelude.{Bool, true, ◌&&◌, List, [], ◌∷◌, ℕ, ◌+◌, ◌-◌, ◌*◌, ◌^◌, ◌%◌, eqb, leb, ltb, length, get_or, drop}
-use Rattle.rules.specs.Words.{if◌then◌else◌}
+use Rattle.std.specs.Prelude.{Bool, true, ◌&&◌, List, [], ◌∷◌, ℕ, ◌+◌, ◌-◌, ◌*◌, ◌^◌, ◌%◌, eqb, leb, ltb, length, get_or, drop, if◌then◌else◌}
 use Rattle.report.specs.Text.{minus}
 use Rattle.words.specs.declared.Number.{Number}
 use Rattle.words.specs.declared.Number.TheVariants.{Is, Not}

@@ -1,6 +1,5 @@
 -- A text as lines and words.
-use Rattle.std.specs.Prelude.{Bool, true, false, not, ◌&&◌, ◌||◌, List, [], ◌∷◌, ℕ, zero, suc, ◌+◌, ◌-◌, eqb, ltb, length, take, drop}
-use Rattle.rules.specs.Words.{if◌then◌else◌}
+use Rattle.std.specs.Prelude.{Bool, true, false, not, ◌&&◌, ◌||◌, List, [], ◌∷◌, ℕ, zero, suc, ◌+◌, ◌-◌, eqb, ltb, length, take, drop, if◌then◌else◌}
 use Rattle.report.specs.Text.{newline, space}
 use Rattle.words.specs.declared.Class.{Class}
 use Rattle.words.specs.declared.Class.TheVariants.{Blank, Solid, Content, Row}

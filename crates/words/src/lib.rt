@@ -1,6 +1,8 @@
 // A text taken apart by lines and words, for the programs that read one, and the complaint that such a program
 // makes of a bad line. A line ends at a newline; blanks and tabs stand between its words; `#` begins a remark to
 // the line's end. A place is counted in bytes from 0; at or past the end of a text there is nothing more.
+#![tactic(auto)]
+
 ghost use Rattle.std.specs.Prelude.{◌≡◌, ◌+◌, ◌≤◌, ◌<◌, eqb, length, drop};
 ghost use Rattle.report.specs.Buffer.{Puts};
 ghost use Rattle.words.specs.Texts.{blank, content, passes, run, line_at, next_word, word_at, nth, same};
@@ -10,28 +12,28 @@ ghost use Rattle.words.specs.Complaints.{shown, around, complaint, Complains};
 use report::{Written, put_byte, put_bytes, put_decimal};
 
 // The line at a place: where what it says ends, before its remark or its newline, and where the next line begins.
-#[derive(Drop)]
+#[derive(Clone, Copy)]
 pub struct Line {
     pub end: usize,
     pub next: usize,
 }
 
 // A word's bytes are those from one place up to another; where there is no word the two are the same.
-#[derive(Drop)]
+#[derive(Clone, Copy)]
 pub struct Word {
     pub from: usize,
     pub to: usize,
 }
 
 // What a word says as a number, or that it is not a number that is allowed.
-#[derive(Drop)]
+#[derive(Clone, Copy)]
 pub enum Number {
     Is(u64),
     Not,
 }
 
 // What a run of bytes is made of.
-#[derive(Drop)]
+#[derive(Clone, Copy)]
 enum Class {
     Blank,
     Solid,

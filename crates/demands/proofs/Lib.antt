@@ -1,0 +1,2 @@
+-- What rests on the code's own outcome.
+pub mod Next

@@ -1,0 +1,12 @@
+-- `lines::living_of`: so far the members in the slots below s are counted. Assumes nothing.
+use mathlib.Core.Path.{◌≡◌}
+use Prim.Native.Nat.{◌-◌, ◌≤◌}
+use Rattle.rules.specs.Numbers.{base_slots}
+use Rattle.lines.specs.Lines.{members_of}
+use Rattle.lines.proofs.living_of.Given as goal
+
+abbrev pub invariant-loop-s : goal.invariant-loop-s
+invariant-loop-s l = (l.n ≡ members_of l.s l.ids l.customers l.customer) × (l.s ≤ base_slots)
+
+abbrev pub decreases-loop-s : goal.decreases-loop-s
+decreases-loop-s l = base_slots - l.s

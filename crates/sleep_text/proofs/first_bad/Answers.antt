@@ -1,0 +1,51 @@
+-- `sleep_text::first_bad` meets its contract: what is found from here on is what is found in the whole. Each line
+-- takes a byte at least.
+-- Assumes nothing.
+use mathlib.Core.Path.{◌≡◌, sym, ap, ◌∙◌}
+use Prim.Native.Nat.{◌≤◌}
+use native.Mathlib.Omega.{arith}
+use lib.ListN.{length}
+use Rattle.words.proofs.Places.{end_place, end_within, next_further}
+use Rattle.sleep_text.specs.Lines.{bad, parsed, line_of}
+use Rattle.sleep_text.proofs.Passing.{walk_end, walk_bad, walk_on}
+use Rattle.sleep_text.proofs.first_bad.Goals as goal
+
+pub slice_bounds-parse-count : goal.slice_bounds-parse-count
+slice_bounds-parse-count c =
+    let within : (c.loop-at.at ≤ c.line_at-line.result.end) × (c.line_at-line.result.end ≤ length c.args.text.now) = let t = c.args.text.now in
+    rw c.line_at-line.ensures (end_place t c.loop-at.at c.loop-at-test.true, end_within t c.loop-at.at c.loop-at-test.true) in
+    let w = within in omega (arith, w.0)
+
+pub slice_bounds-parse-start : goal.slice_bounds-parse-start
+slice_bounds-parse-start c =
+    let within : (c.loop-at.at ≤ c.line_at-line.result.end) × (c.line_at-line.result.end ≤ length c.args.text.now) = let t = c.args.text.now in
+    rw c.line_at-line.ensures (end_place t c.loop-at.at c.loop-at-test.true, end_within t c.loop-at.at c.loop-at-test.true) in
+    let w = within in omega (arith, w.0)
+
+pub slice_bounds-parse-end : goal.slice_bounds-parse-end
+slice_bounds-parse-end c =
+    let within : (c.loop-at.at ≤ c.line_at-line.result.end) × (c.line_at-line.result.end ≤ length c.args.text.now) = let t = c.args.text.now in
+    rw c.line_at-line.ensures (end_place t c.loop-at.at c.loop-at-test.true, end_within t c.loop-at.at c.loop-at-test.true) in
+    let w = within in omega (arith, w.1)
+
+pub returns-then-is_bad : goal.returns-then-is_bad
+returns-then-is_bad c =
+    let said : c.parse-said.result ≡ parsed (line_of c.args.text.now c.loop-at.at) = rw (← c.line_at-line.ensures) c.parse-said.ensures in
+    let t = c.args.text.now in
+    rw (said, c.line_at-line.ensures) (sym (c.loop-at.invariant.0 ∙ walk_bad t c.loop-at.at c.loop-at.number c.loop-at-test.true (ap bad (sym said) ∙ sym c.is_bad.ensures ∙ c.if-is_bad.true)))
+
+pub loop-at-smaller : goal.loop-at-smaller
+loop-at-smaller c =
+    let t = c.args.text.now in
+    rw c.line_at-line.ensures (let f = next_further t c.loop-at.at c.loop-at-test.true in omega (arith, f.0, f.1))
+
+pub loop-at-preserved : goal.loop-at-preserved
+loop-at-preserved c =
+    let said : c.parse-said.result ≡ parsed (line_of c.args.text.now c.loop-at.at) = rw (← c.line_at-line.ensures) c.parse-said.ensures in
+    let t = c.args.text.now in
+    let f = next_further t c.loop-at.at c.loop-at-test.true in
+    rw c.line_at-line.ensures (c.loop-at.invariant.0 ∙ walk_on t c.loop-at.at c.loop-at.number c.loop-at-test.true (ap bad (sym said) ∙ sym c.is_bad.ensures ∙ c.if-is_bad.false), (f.1, omega (arith, f.0)))
+
+pub returns : goal.returns
+returns c =
+    sym (c.loop-at.invariant.0 ∙ walk_end c.args.text.now c.loop-at.at c.loop-at.number c.loop-at-test.false)
