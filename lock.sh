@@ -1,7 +1,7 @@
 # shellcheck shell=sh
-# One at a time: two that prove in one target/ spoil each other's work, and `rt ci` removes it. For ./desk, ./test and
-# ./bench. The lock is file 9, and ends when that is closed, by whoever has it or by its end; `rt` called by hand asks
-# nobody.
+# One at a time: `rt` has who comes second in a crate wait, but tells no ./desk for whom; and ./test takes from out/ the
+# programs that its `rt ci` built there. For ./desk, ./test and ./bench. The lock is file 9, and ends when that is closed,
+# by whoever has it or by its end; `rt` called by hand does not ask for it.
 one_at_a_time() { # WHO FOLDER [TEST]: where the test holds meanwhile, the wait is over without the lock
     mkdir -p "$2/built" && exec 9>>"$2/built/lock" || return
     taken=0

@@ -1,6 +1,6 @@
 # Names, in the text of the proved desk's module, the part that each instruction belongs to, as the file of its debug line,
-# for a profile to read: the crate of its function ("desk" for its rooms, "searches" for those of the leaves), "moves" for a move of a whole
-# machine, "answers" for any smaller move. The code stays as it is.
+# for a profile to read: the crate of its function ("desk" for its rooms, "lines" for all leaves but their "searches"), "moves" for a move of a
+# whole machine, "answers" for any smaller move, "clears" where a place is cleared. The code stays as it is.
 
 function add(text) {
     notes = notes "!" id " = " text "\n"
@@ -24,8 +24,9 @@ function place(name) {
 function part_of(name) {
     if (name ~ /^lines::(find|lowest|marks)/) return "searches"
     sub(/::.*/, "", name)
-    if (name ~ /^(kin|answers|verdicts|tables|calls|events|looks)$/) return "desk"
-    return name == "std" ? "replay" : name
+    if (name ~ /^(kin|answers|verdicts|tables|calls|events|looks|starts|rules)$/) return "desk"
+    if (name ~ /^(seats|choices)$/) return "lines"
+    return name ~ /^(std|core)$/ ? "replay" : name
 }
 
 # an answer has 48 bytes, and a machine several hundred
@@ -59,6 +60,7 @@ inside && /^  [^ ]/ && !/\[$/ {
         sub(/.*, i64 /, "", bytes)
         part = bytes + 0 >= large ? "moves" : "answers"
     }
+    if (/@llvm\.memset/) part = "clears"
     $0 = $0 ", !dbg !" place(part)
 }
 
