@@ -1,11 +1,13 @@
 -- `create` meets its contract.
 use mathlib.Core.Path.{◌≡◌, sym, ap, ◌∙◌, subst}
 use mathlib.Core.Bool.{false}
-use mathlib.Core.List.{[], ◌∷◌}
-use Prim.Native.Nat.{◌<◌}
+use mathlib.Core.List.{List, [], ◌∷◌}
+use Prim.Native.Nat.{ℕ, ◌<◌}
 use native.Mathlib.Omega.{arith}
 use Rattle.rules.specs.Numbers.{base_slots}
-use Rattle.lines.specs.Lines.{first_where, is_zero}
+use lib.ListN.{length}
+use Rattle.lines.specs.Lines.{first_where, is_zero, mask_of_taken}
+use Rattle.lines.specs.declared.Found.{Found}
 use Rattle.lines.specs.declared.Found.TheVariants.{At}
 use Rattle.rules.specs.declared.Result.{Result}
 use Rattle.rules.specs.declared.Answer.{Answer}
@@ -19,6 +21,13 @@ use Rattle.tables.proofs.Seats.{room_beside}
 use Rattle.calls.proofs.Newborns.{rowed, born, bit_fits}
 use Rattle.calls.proofs.Creating.{at_its_ceiling, child, found_slot, found_free, create_ids, create_ceiling, create_slots, create_shape, create_born}
 use Rattle.calls.proofs.create.Goals as goal
+
+-- what the search for a free slot says, of the first that it found
+found_of : (t : Tables) → Shape t → (s : ℕ) {r : Found} → ((ids : List ℕ) → length ids ≡ base_slots → t.taken ≡ mask_of_taken base_slots ids → r ≡ first_where is_zero 0 ids) → r ≡ At s → first_where is_zero 0 t.ids ≡ At s
+found_of t g s said at = sym (said t.ids g.ids_long g.taken_mask) ∙ at
+
+slot_of : (t : Tables) → Shape t → (s : ℕ) {r : Found} → ((ids : List ℕ) → length ids ≡ base_slots → t.taken ≡ mask_of_taken base_slots ids → r ≡ first_where is_zero 0 ids) → r ≡ At s → s < base_slots
+slot_of t g s said at = found_slot t g s (found_of t g s said at)
 
 pub returns-then-id-gt-TOP : goal.returns-then-id-gt-TOP
 returns-then-id-gt-TOP c =
@@ -39,38 +48,21 @@ returns-in_default c =
     absurd some_left
 
 pub overflow_cast-slot : goal.overflow_cast-slot
-overflow_cast-slot c =
-    let found : first_where is_zero 0 c.args.t.ids ≡ At c.in-At.s = let g = c.requires.0 in
-    sym (c.lowest_free.ensures c.args.t.ids g.ids_long g.taken_mask) ∙ c.in-At.is in
-    let slot : c.in-At.s < base_slots = found_slot c.args.t c.requires.0 c.in-At.s found in
-    omega (arith, slot)
+overflow_cast-slot c = omega (arith, slot_of c.args.t c.requires.0 c.in-At.s c.lowest_free.ensures c.in-At.is)
 
 pub offset_bounds-t-s : goal.offset_bounds-t-s
-offset_bounds-t-s c =
-    let found : first_where is_zero 0 c.args.t.ids ≡ At c.in-At.s = let g = c.requires.0 in
-    sym (c.lowest_free.ensures c.args.t.ids g.ids_long g.taken_mask) ∙ c.in-At.is in
-    let slot : c.in-At.s < base_slots = found_slot c.args.t c.requires.0 c.in-At.s found in
-    omega (arith, slot)
+offset_bounds-t-s c = omega (arith, slot_of c.args.t c.requires.0 c.in-At.s c.lowest_free.ensures c.in-At.is)
 
 pub bounds-t-s : goal.bounds-t-s
-bounds-t-s c =
-    let found : first_where is_zero 0 c.args.t.ids ≡ At c.in-At.s = let g = c.requires.0 in
-    sym (c.lowest_free.ensures c.args.t.ids g.ids_long g.taken_mask) ∙ c.in-At.is in
-    let slot : c.in-At.s < base_slots = found_slot c.args.t c.requires.0 c.in-At.s found in
-    slot
+bounds-t-s c = slot_of c.args.t c.requires.0 c.in-At.s c.lowest_free.ensures c.in-At.is
 
 pub power-requires : goal.power-requires
-power-requires c =
-    let found : first_where is_zero 0 c.args.t.ids ≡ At c.in-At.s = let g = c.requires.0 in
-    sym (c.lowest_free.ensures c.args.t.ids g.ids_long g.taken_mask) ∙ c.in-At.is in
-    let slot : c.in-At.s < base_slots = found_slot c.args.t c.requires.0 c.in-At.s found in
-    omega (arith, slot)
+power-requires c = omega (arith, slot_of c.args.t c.requires.0 c.in-At.s c.lowest_free.ensures c.in-At.is)
 
 pub overflow_add-t : goal.overflow_add-t
 overflow_add-t c =
-    let found : first_where is_zero 0 c.args.t.ids ≡ At c.in-At.s = let g = c.requires.0 in
-    sym (c.lowest_free.ensures c.args.t.ids g.ids_long g.taken_mask) ∙ c.in-At.is in
-    let slot : c.in-At.s < base_slots = found_slot c.args.t c.requires.0 c.in-At.s found in
+    let found = found_of c.args.t c.requires.0 c.in-At.s c.lowest_free.ensures c.in-At.is in
+    let slot = slot_of c.args.t c.requires.0 c.in-At.s c.lowest_free.ensures c.in-At.is in
     let s = c.in-At.s in
     omega (
       arith,
@@ -79,59 +71,32 @@ overflow_add-t c =
     )
 
 pub bounds-t-s-2 : goal.bounds-t-s-2
-bounds-t-s-2 c =
-    let found : first_where is_zero 0 c.args.t.ids ≡ At c.in-At.s = let g = c.requires.0 in
-    sym (c.lowest_free.ensures c.args.t.ids g.ids_long g.taken_mask) ∙ c.in-At.is in
-    let slot : c.in-At.s < base_slots = found_slot c.args.t c.requires.0 c.in-At.s found in
-    slot
+bounds-t-s-2 c = slot_of c.args.t c.requires.0 c.in-At.s c.lowest_free.ensures c.in-At.is
 
 pub bounds-t-s-3 : goal.bounds-t-s-3
-bounds-t-s-3 c =
-    let found : first_where is_zero 0 c.args.t.ids ≡ At c.in-At.s = let g = c.requires.0 in
-    sym (c.lowest_free.ensures c.args.t.ids g.ids_long g.taken_mask) ∙ c.in-At.is in
-    let slot : c.in-At.s < base_slots = found_slot c.args.t c.requires.0 c.in-At.s found in
-    slot
+bounds-t-s-3 c = slot_of c.args.t c.requires.0 c.in-At.s c.lowest_free.ensures c.in-At.is
 
 pub offset_bounds-t-s-2 : goal.offset_bounds-t-s-2
-offset_bounds-t-s-2 c =
-    let found : first_where is_zero 0 c.args.t.ids ≡ At c.in-At.s = let g = c.requires.0 in
-    sym (c.lowest_free.ensures c.args.t.ids g.ids_long g.taken_mask) ∙ c.in-At.is in
-    let slot : c.in-At.s < base_slots = found_slot c.args.t c.requires.0 c.in-At.s found in
-    omega (arith, slot)
+offset_bounds-t-s-2 c = omega (arith, slot_of c.args.t c.requires.0 c.in-At.s c.lowest_free.ensures c.in-At.is)
 
 pub bounds-t-s-4 : goal.bounds-t-s-4
-bounds-t-s-4 c =
-    let found : first_where is_zero 0 c.args.t.ids ≡ At c.in-At.s = let g = c.requires.0 in
-    sym (c.lowest_free.ensures c.args.t.ids g.ids_long g.taken_mask) ∙ c.in-At.is in
-    let slot : c.in-At.s < base_slots = found_slot c.args.t c.requires.0 c.in-At.s found in
-    slot
+bounds-t-s-4 c = slot_of c.args.t c.requires.0 c.in-At.s c.lowest_free.ensures c.in-At.is
 
 pub offset_bounds-t-s-3 : goal.offset_bounds-t-s-3
-offset_bounds-t-s-3 c =
-    let found : first_where is_zero 0 c.args.t.ids ≡ At c.in-At.s = let g = c.requires.0 in
-    sym (c.lowest_free.ensures c.args.t.ids g.ids_long g.taken_mask) ∙ c.in-At.is in
-    let slot : c.in-At.s < base_slots = found_slot c.args.t c.requires.0 c.in-At.s found in
-    omega (arith, slot)
+offset_bounds-t-s-3 c = omega (arith, slot_of c.args.t c.requires.0 c.in-At.s c.lowest_free.ensures c.in-At.is)
 
 pub bounds-t-s-5 : goal.bounds-t-s-5
-bounds-t-s-5 c =
-    let found : first_where is_zero 0 c.args.t.ids ≡ At c.in-At.s = let g = c.requires.0 in
-    sym (c.lowest_free.ensures c.args.t.ids g.ids_long g.taken_mask) ∙ c.in-At.is in
-    let slot : c.in-At.s < base_slots = found_slot c.args.t c.requires.0 c.in-At.s found in
-    slot
+bounds-t-s-5 c = slot_of c.args.t c.requires.0 c.in-At.s c.lowest_free.ensures c.in-At.is
 
 pub joins-m-requires : goal.joins-m-requires
 joins-m-requires c =
-    let found : first_where is_zero 0 c.args.t.ids ≡ At c.in-At.s = let g = c.requires.0 in
-    sym (c.lowest_free.ensures c.args.t.ids g.ids_long g.taken_mask) ∙ c.in-At.is in
-    let slot : c.in-At.s < base_slots = found_slot c.args.t c.requires.0 c.in-At.s found in
+    let slot = slot_of c.args.t c.requires.0 c.in-At.s c.lowest_free.ensures c.in-At.is in
     let room = room_beside c.args.t c.requires.0 c.requires.1 in
     (slot, omega (arith, room), omega (arith, room))
 
 pub carries_on-requires : goal.carries_on-requires
 carries_on-requires c =
-    let found : first_where is_zero 0 c.args.t.ids ≡ At c.in-At.s = let g = c.requires.0 in
-    sym (c.lowest_free.ensures c.args.t.ids g.ids_long g.taken_mask) ∙ c.in-At.is in
+    let found = found_of c.args.t c.requires.0 c.in-At.s c.lowest_free.ensures c.in-At.is in
     let born-now : c.joins-m.result ≡ born c.args.t c.in-At.s (child c.args.t c.args.a2) c.args.a2 c.args.a3 = let s = c.in-At.s in
     c.joins-m.ensures
     ∙ (λ i. lined_up (s ∷ []) (rowed c.args.t s (c.power.ensures i) (c.child_of-customer.ensures i) c.args.a2 c.args.a3)) in
@@ -143,10 +108,9 @@ carries_on-requires c =
 
 pub returns : goal.returns
 returns c =
+    let found = found_of c.args.t c.requires.0 c.in-At.s c.lowest_free.ensures c.in-At.is in
     let asked : c.at_ceiling.result ≡ at_its_ceiling c.args.t (child c.args.t c.args.a2) = rw c.child_of-customer.ensures at c.at_ceiling.ensures in
     let below : at_its_ceiling c.args.t (child c.args.t c.args.a2) ≡ false = sym asked ∙ c.if-at_ceiling.false in
-    let found : first_where is_zero 0 c.args.t.ids ≡ At c.in-At.s = let g = c.requires.0 in
-    sym (c.lowest_free.ensures c.args.t.ids g.ids_long g.taken_mask) ∙ c.in-At.is in
     let born-now : c.joins-m.result ≡ born c.args.t c.in-At.s (child c.args.t c.args.a2) c.args.a2 c.args.a3 = let s = c.in-At.s in
     c.joins-m.ensures
     ∙ (λ i. lined_up (s ∷ []) (rowed c.args.t s (c.power.ensures i) (c.child_of-customer.ensures i) c.args.a2 c.args.a3)) in
