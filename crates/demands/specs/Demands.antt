@@ -1,12 +1,13 @@
 -- DEMAND 3 OF THE CODE: whoever starts the desk and hands it any events, one after the other, refused ones included,
 -- gets answers and a machine of which every law of the ledger holds. Each field is a law of crates/ledger, said of what
 -- the code answered and of the machine it came to.
-use Rattle.std.specs.Prelude.{◌≡◌, refl, ◌≢◌, true, List, [], ◌∷◌, map, ℕ, ◌≤◌, ◌<◌, length, get_or}
-use Rattle.std.proofs.Common.{sym, ap, ◌∙◌, subst, arith, eq-eqb, lt-ltb}
+use Rattle.std.specs.Prelude.{◌≡◌, refl, ◌≢◌, true, List, [], ◌∷◌, map, ℕ, ◌≤◌, ◌<◌, length, get_or, None}
+use Rattle.std.proofs.Common.{sym, ap, ◌∙◌, subst, arith, lt-ltb}
 use Rattle.rules.specs.declared.Arrival.{Arrival}
 use Rattle.rules.specs.declared.Answer.{Answer}
+use Rattle.rules.specs.declared.Refusal.TheVariants.{Over}
 use Rattle.rules.specs.Words.{All}
-use Rattle.rules.specs.Numbers.{base_slots, top, over}
+use Rattle.rules.specs.Numbers.{base_slots, top}
 use Rattle.rules.specs.Machine as book
 use Rattle.rules.specs.Machine.{Process, living, living_of, child_of, processors, turn}
 use Rattle.rules.specs.Answers.{Outcome, plain, refusing}
@@ -39,11 +40,11 @@ use Rattle.desk.specs.Promised.{Starts, Answers}
 use Rattle.desk.specs.Lists.{Follows, after, told, follows, of_code}
 
 -- an accepted start's machine, after any events, obeys the rule and is at rest
-ended : (number now : ℕ) (values ceilings : List ℕ) (es : List Arrival) → start_refusal base_slots number values ceilings ≡ 0
+ended : (number now : ℕ) (values ceilings : List ℕ) (es : List Arrival) → start_refusal base_slots number values ceilings ≡ None
     → Rests base_slots (length values) (length ceilings) number (run (start base_slots number now values ceilings) es)
 ended number now values ceilings es ok =
     let one : 1 ≤ length ceilings = some_customer ceilings (start_passed base_slots number values ceilings ok).1.0 in
-    let many : started base_slots number values ceilings ≡ number = rw (eq-eqb (start_refusal base_slots number values ceilings) 0 ok) in
+    let many : started base_slots number values ceilings ≡ number = rw ok refl in
     subst (λ (n : ℕ). Rests base_slots (length values) (length ceilings) n (run (start base_slots number now values ceilings) es)) many
     (promises.tables base_slots number now values ceilings es (omega arith) one)
   where
@@ -72,7 +73,7 @@ pub record Lawful (number now : ℕ) (values ceilings : List ℕ) (es : List Arr
 
 -- any start that is accepted, any events at any processors, any results that meet `event`'s promise one after the other
 pub demand_3 : (number now : ℕ) (values ceilings : List ℕ) (es : List Arrival) (s : Started) (rs : List Answered)
-    → start_refusal base_slots number values ceilings ≡ 0 → Starts now values ceilings number s → Follows s.machine es rs → Lawful number now values ceilings es (told rs) (view (after s.machine rs))
+    → start_refusal base_slots number values ceilings ≡ None → Starts now values ceilings number s → Follows s.machine es rs → Lawful number now values ceilings es (told rs) (view (after s.machine rs))
 demand_3 number now values ceilings es s rs ok t f =
     of_code (Lawful number now values ceilings es) now values ceilings number es s rs t f record {
       tables = ended number now values ceilings es ok;
@@ -110,7 +111,7 @@ trails (e ∷ es) m (r ∷ rs) f =
 -- FIRST COME, FIRST SERVED, OF THE CODE: as long as x stands in a line, in each machine that the code hands back,
 -- nobody who was behind it is before it
 pub nobody_overtakes_in_code : (number now : ℕ) (values ceilings : List ℕ) (es later : List Arrival) (s : Started) (rs more : List Answered)
-    → start_refusal base_slots number values ceilings ≡ 0 → Starts now values ceilings number s → Follows s.machine es rs → Follows (after s.machine rs) later more
+    → start_refusal base_slots number values ceilings ≡ None → Starts now values ceilings number s → Follows s.machine es rs → Follows (after s.machine rs) later more
     → NobodyOvertakes (view (after s.machine rs)) (machines more)
 nobody_overtakes_in_code number now values ceilings es later s rs more ok t f g =
     subst (NobodyOvertakes (view (after s.machine rs))) (sym (trails later (after s.machine rs) more g))
@@ -119,7 +120,7 @@ nobody_overtakes_in_code number now values ceilings es later s rs more ok t f g 
 -- 02, (ii), of the code: whatever the other customers did, a create for a customer below its ceiling is granted while
 -- ids last
 pub below_ceiling_granted : (number now k reading a1 a2 a3 : ℕ) (values ceilings : List ℕ) (es : List Arrival) (s : Started) (rs : List Answered) (r : Answered)
-    → start_refusal base_slots number values ceilings ≡ 0 → Starts now values ceilings number s → Follows s.machine es rs → Answers k (create_call reading a1 a2 a3) (after s.machine rs) r
+    → start_refusal base_slots number values ceilings ≡ None → Starts now values ceilings number s → Follows s.machine es rs → Answers k (create_call reading a1 a2 a3) (after s.machine rs) r
     → let c = childs_customer (turned k (past (beginning number now) es (told rs))) a2 in
     accepted r.answer ≡ true → living_of c (turn k (view (after s.machine rs))) < get_or ceilings c 0 → length (ids_issued (beginning number now) es (told rs)) < top → granted r.answer ≡ true
 below_ceiling_granted number now k reading a1 a2 a3 values ceilings es s rs r ok t f a taken below last =
@@ -130,20 +131,19 @@ below_ceiling_granted number now k reading a1 a2 a3 values ceilings es s rs r ok
     ((next.done taken).granted_exactly reading a1 a2 a3 refl).exactly
     ∙ and_intro _ _ (lt-ltb (living_of c (turn k (view (after s.machine rs)))) (get_or ceilings c 0) below) (lt-ltb issued top last)
 
--- REFUSED STARTS, of the code: the number, the machine beside it, an answer of 1 to every event, and the machine
--- unchanged
+-- REFUSED STARTS, of the code: why, the machine beside it, an answer of 1 to every event, and the machine unchanged
 pub refused_start : (number now : ℕ) (values ceilings : List ℕ) (es : List Arrival) (s : Started) (rs : List Answered)
-    → start_refusal base_slots number values ceilings ≢ 0 → Starts now values ceilings number s → Follows s.machine es rs
+    → start_refusal base_slots number values ceilings ≢ None → Starts now values ceilings number s → Follows s.machine es rs
     → (s.refusal ≡ start_refusal base_slots number values ceilings) × RefusedStart base_slots (length values) (length ceilings) (view s.machine) es
-    × (told rs ≡ map (λ e. refusing over plain) es) × (view (after s.machine rs) ≡ view s.machine)
+    × (told rs ≡ map (λ e. refusing Over plain) es) × (view (after s.machine rs) ≡ view s.machine)
 refused_start number now values ceilings es s rs bad t f =
     let h = subst (λ (m : book.Machine). RefusedStart base_slots (length values) (length ceilings) m es) (sym t.seen) (promises.refused_start base_slots number now values ceilings es bad) in
     let g = follows es s.machine rs f in
-    (t.number, h, g.0 ∙ h.refuses, g.1 ∙ h.unchanged)
+    (t.refusal, h, g.0 ∙ h.refuses, g.1 ∙ h.unchanged)
 
 -- 02, (vii), of the code: it goes on with whatever events come later, and its own answers to them are those of the law
 pub nobody_waits_longer : (number now : ℕ) (values ceilings : List ℕ) (es later : List Arrival) (s : Started) (rs more : List Answered)
-    → start_refusal base_slots number values ceilings ≡ 0 → Starts now values ceilings number s → Follows s.machine es rs → Follows (after s.machine rs) later more
+    → start_refusal base_slots number values ceilings ≡ None → Starts now values ceilings number s → Follows s.machine es rs → Follows (after s.machine rs) later more
     → Waits (past (beginning number now) es (told rs)) later (told more)
 nobody_waits_longer number now values ceilings es later s rs more ok t f g =
     subst (Waits (past (beginning number now) es (told rs)) later) (sym (follows later (after s.machine rs) more g).0)

@@ -2,11 +2,11 @@
 -- Whatever the start and the events, a machine of one processor gives them, at processor 0, the answers that the former
 -- rule book gave, and comes to the same machine; the new mask is 0. The two theorems stand last. They go rule by rule,
 -- one or two lines each: with no other processor, every definition that (xiii) changed computes to the former one.
-use Rattle.std.specs.Prelude.{if◌then◌else◌}
+use Rattle.std.specs.Prelude.{if◌then◌else◌, Option, Some, None}
 use mathlib.Core.Path.{◌≡◌, refl, ◌∙◌, ap, ap₂}
 use mathlib.Core.Bool.{Bool, true, false}
 use mathlib.Core.List.{List, [], ◌∷◌}
-use Prim.Native.Nat.{ℕ, zero, suc, ◌-◌}
+use Prim.Native.Nat.{ℕ, zero, suc}
 use native.Mathlib.Omega.{arith}
 use lib.Dec.{eqb, ltb}
 use lib.IntN.{ℤ, pos, negsuc}
@@ -18,8 +18,9 @@ use Rattle.rules.specs.declared.Event.TheVariants.{Call, Interrupt, Exception}
 use Rattle.rules.specs.declared.Line.TheVariants.{Semaphore, Device, PseudoClock}
 use Rattle.rules.specs.declared.Cause.{Cause}
 use Rattle.rules.specs.declared.Cause.TheVariants.{Tlb, General}
+use Rattle.rules.specs.declared.StartRefusal.{StartRefusal}
 use Rattle.rules.specs.declared.Answer.{Answer}
-use Rattle.rules.specs.Words.{first, those}
+use Rattle.rules.specs.Words.{first, maybe, those}
 use Rattle.rules.specs.Numbers.{sub_devices}
 use Rattle.rules.specs.Starts.{bad_number, start_refusal}
 use Rattle.rules.specs.Machine.{Process, Machine, living, line, nucleus_waits, back, block, dispatch, wake, wake_all, family, family_of, kill, lowest_free, child_of, birth, gap, charge, turn, fresh}
@@ -44,6 +45,11 @@ of_first : {A : Type 0} (xs : List A) {none : Outcome} {none° : Former.Outcome}
     → none ≡ brought none° → ((x : A) → some x ≡ brought (some° x)) → first xs none some ≡ brought (first xs none° some°)
 of_first [] p q = p
 of_first (x ∷ xs) p q = q x
+
+of_maybe : {A : Type 0} (o : Option A) {none : Outcome} {none° : Former.Outcome} {some : A → Outcome} {some° : A → Former.Outcome}
+    → none ≡ brought none° → ((x : A) → some x ≡ brought (some° x)) → maybe o none some ≡ brought (maybe o none° some°)
+of_maybe None p q = p
+of_maybe (Some x) p q = q x
 
 -- ── Rule by rule ──
 
@@ -157,7 +163,7 @@ perform (Exception now code) m = of_first m.running (schedule plain m) (λ p. ch
 
 step : (m : Former.Machine) (e : Event) → Rules.step (grown m) e ≡ brought (Former.step m e)
 unfolding Rules.step Former.step Rules.refusal Former.refusal Rules.rows Former.rows Rules.stopped Former.stopped gap Former.gap charge Former.charge Rules.refused Former.refused
-step m e = chosen (eqb (Former.refusal m e) 0) (perform e (Former.charge (Rules.clock e) m)) refl
+step m e = of_maybe (Former.refusal m e) (perform e (Former.charge (Rules.clock e) m)) (λ r. refl)
 
 -- ── Any events ──
 
@@ -196,12 +202,12 @@ same_rest slots sems customers =
 
 same_start : (slots now : ℕ) (values ceilings : List ℕ) → start slots 1 now values ceilings ≡ turn 0 (grown (Former.start slots now values ceilings))
 unfolding start Former.start start_refusal Former.start_refusal bad_number
-same_start slots now values ceilings = ap (turn 0) (go (eqb (Former.start_refusal slots values ceilings) 0))
+same_start slots now values ceilings = ap (turn 0) (go (Former.start_refusal slots values ceilings))
   where
-    go : (b : Bool) → (if b then fresh slots 0 now values ceilings else Rules.nothing_left slots (length values) (length ceilings))
-        ≡ grown (if b then Former.fresh slots now values ceilings else Former.nothing_left slots (length values) (length ceilings))
-    go true = same_fresh slots now values ceilings
-    go false = same_rest slots (length values) (length ceilings)
+    go : (o : Option StartRefusal) → maybe o (fresh slots 0 now values ceilings) (λ r. Rules.nothing_left slots (length values) (length ceilings))
+        ≡ grown (maybe o (Former.fresh slots now values ceilings) (λ r. Former.nothing_left slots (length values) (length ceilings)))
+    go None = same_fresh slots now values ceilings
+    go (Some r) = same_rest slots (length values) (length ceilings)
 
 -- THE OLD ANSWERS, AND THE OLD MACHINES, FOR ONE
 pub old_answers : (slots now : ℕ) (values ceilings : List ℕ) (es : List Event) → answers (start slots 1 now values ceilings) (all_at 0 es) ≡ Former.answers (Former.start slots now values ceilings) es

@@ -1,10 +1,11 @@
 -- THE RULES OF ONE PROCESSOR: the rule book as it stood before 02, (xiii), its machine and every rule that speaks of a
 -- machine, word for word (of crates/rules/specs as of the landing before that request; only the order of the parts and
--- the `use` lines differ, and `ending` leaves the new mask of an answer as it is), with alarms first, (vi), in it.
+-- the `use` lines differ, `ending` leaves the new mask of an answer as it is, and refusals go by today's names), with
+-- alarms first, (vi), in it.
 -- It is here for one purpose: proofs/Same shows that one processor gets the answers of these rules, whatever the start
 -- and the events. Nothing else reads it. What speaks of no machine (words, waiting lines, the choosing between two
 -- lines, families, the parts of an answer, the refusals that look at the event alone) is the rule book's own.
-use Rattle.std.specs.Prelude.{Bool, true, false, not, ◌&&◌, ◌||◌, List, [], ◌∷◌, ◌++◌, map, ℕ, suc, ◌+◌, ◌-◌, ◌%◌, ◌^◌, eqb, leb, ltb, ℤ, pos, negsuc, length, get_or, set, replicate, if◌then◌else◌}
+use Rattle.std.specs.Prelude.{Bool, true, false, not, ◌&&◌, ◌||◌, List, [], ◌∷◌, ◌++◌, map, Option, Some, None, ℕ, suc, ◌+◌, ◌-◌, ◌%◌, ◌^◌, eqb, leb, ltb, ℤ, pos, negsuc, length, get_or, set, replicate, if◌then◌else◌}
 use Rattle.rules.specs.declared.Mode.{Mode}
 use Rattle.rules.specs.declared.Mode.TheVariants.{User, Kernel}
 use Rattle.rules.specs.declared.Event.{Event}
@@ -15,11 +16,17 @@ use Rattle.rules.specs.declared.Cause.{Cause}
 use Rattle.rules.specs.declared.Cause.TheVariants.{Tlb, General}
 use Rattle.rules.specs.declared.Action.{Action}
 use Rattle.rules.specs.declared.Action.TheVariants.{CarryOn, Run, Wait, Halt, Panic, PassUp}
+use Rattle.rules.specs.declared.Refusal.{Refusal}
+use Rattle.rules.specs.declared.Refusal.TheVariants.{Over, ClockBack, TimeFull, NobodyRuns, NoSuchLine, NoSuchCode}
+use Rattle.rules.specs.declared.StartRefusal.{StartRefusal}
+use Rattle.rules.specs.declared.StartRefusal.TheVariants.{ValueTooLarge, CeilingsNotAllowed}
 use Rattle.rules.specs.declared.Answer.{Answer}
-use Rattle.rules.specs.Words.{first, those, front, rest, without, any, sum, many}
-use Rattle.rules.specs.Numbers.{top, sub_devices, gap_limit, time_limit, over, clock_back, time_full, nobody_runs, no_such_line, no_such_code, value_too_large, ceilings_not_allowed}
+use Rattle.rules.specs.Words.{first, maybe, those, front, rest, without, any, sum, many}
+use Rattle.rules.specs.Numbers.{top, sub_devices, gap_limit, time_limit}
 use Rattle.rules.specs.Starts.{too_large, not_allowed}
-use Rattle.rules.specs.Machine.{Process, Waiter, Status, On, Halted, Panicked, longer, nucleus, is_high, low_turn, next_of, counted, at, family, lowest, child_of}
+use Rattle.rules.specs.declared.Status.{Status}
+use Rattle.rules.specs.declared.Status.TheVariants.{On, Halted, Panicked}
+use Rattle.rules.specs.Machine.{Process, Waiter, longer, nucleus, is_high, low_turn, next_of, counted, at, family, lowest, child_of}
 use Rattle.rules.specs.Answers.{plain, refusing, doing, giving, bearing, naming, mask, waking}
 use Rattle.rules.specs.Rules.{sub_device, clock, not_on, bad_line, bad_code, needs_runner, valid, least_ceilings}
 
@@ -197,10 +204,10 @@ pub record Outcome : Type 0 where
 abbrev pub ending : List Process → Answer → Answer
 ending ps x = record { refusal = x.refusal; action = x.action; result = x.result; newborn = x.newborn; device = x.device; woken = x.woken; ended = mask ps; idled = x.idled }
 
--- "refused with 24"; "refusal 27 after 24"; 0 where it is accepted
-unfoldable pub start_refusal : ℕ → List ℕ → List ℕ → ℕ
+-- "refused with 24"; "refusal 27 after 24"; none where it is accepted
+unfoldable pub start_refusal : ℕ → List ℕ → List ℕ → Option StartRefusal
 start_refusal slots values ceilings =
-    if too_large values then value_too_large else (if not_allowed slots ceilings then ceilings_not_allowed else 0)
+    if too_large values then Some ValueTooLarge else (if not_allowed slots ceilings then Some CeilingsNotAllowed else None)
 
 -- the event ends with an action, beside the answer so far
 abbrev pub act : Action → Answer → Machine → Outcome
@@ -362,23 +369,23 @@ unfoldable pub stopped : Machine → Bool
 stopped m = not_on m.status
 
 -- the rows of the table, in its order
-unfoldable pub rows : Machine → Event → List (ℕ × Bool)
+unfoldable pub rows : Machine → Event → List (Refusal × Bool)
 rows m e =
-    (over, stopped m)
-    ∷ (no_such_line, bad_line e)
-    ∷ (no_such_code, bad_code e)
-    ∷ (clock_back, leb gap_limit (gap (clock e) m))
-    ∷ (time_full, ltb time_limit (m.total + gap (clock e) m))
-    ∷ (nobody_runs, needs_runner e && first m.running true (λ p. false))
+    (Over, stopped m)
+    ∷ (NoSuchLine, bad_line e)
+    ∷ (NoSuchCode, bad_code e)
+    ∷ (ClockBack, leb gap_limit (gap (clock e) m))
+    ∷ (TimeFull, ltb time_limit (m.total + gap (clock e) m))
+    ∷ (NobodyRuns, needs_runner e && first m.running true (λ p. false))
     ∷ []
 
--- "the first that applies is given"; 0 where none does
-unfoldable pub refusal : Machine → Event → ℕ
-refusal m e = first (those (λ r. r.1) (rows m e)) 0 (λ r. r.0)
+-- "the first that applies is given"; none where none does
+unfoldable pub refusal : Machine → Event → Option Refusal
+refusal m e = first (those (λ r. r.1) (rows m e)) None (λ r. Some r.0)
 
 -- "action none, masks zero, other parts absent, and the machine afterwards equals the machine before"
-unfoldable pub refused : ℕ → Machine → Outcome
-refused n m = record { after = m; answer = refusing n plain }
+unfoldable pub refused : Refusal → Machine → Outcome
+refused r m = record { after = m; answer = refusing r plain }
 
 -- ── An event ──
 
@@ -396,7 +403,7 @@ perform (Interrupt now n x y) m = interrupt n x y m
 perform (Exception now code) m = exception code m
 
 unfoldable pub step : Machine → Event → Outcome
-step m e = if eqb (refusal m e) 0 then perform e (charge (clock e) m) else refused (refusal m e) m
+step m e = maybe (refusal m e) (perform e (charge (clock e) m)) λ r. refused r m
 
 -- the answers to a list of events, and the machine after it
 unfoldable pub answers : Machine → List Event → List Answer
@@ -416,4 +423,4 @@ nothing_left slots sems customers = (step (fresh slots 0 (replicate sems 0) (lea
 -- "wherever a machine is refused, what stands beside the number" is that one
 unfoldable pub start : ℕ → ℕ → List ℕ → List ℕ → Machine
 start slots now values ceilings =
-    if eqb (start_refusal slots values ceilings) 0 then fresh slots now values ceilings else nothing_left slots (length values) (length ceilings)
+    maybe (start_refusal slots values ceilings) (fresh slots now values ceilings) λ r. nothing_left slots (length values) (length ceilings)

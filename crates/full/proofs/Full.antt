@@ -1,5 +1,6 @@
 -- The edges of 02, (ii), tried again "with 63 and 64 alive", (v), and a table that is full of one family: of n slots,
 -- proved by computing at several n.
+use Rattle.std.specs.Prelude.{None}
 use mathlib.Core.Path.{◌≡◌, refl}
 use mathlib.Core.List.{List, ◌∷◌, ◌++◌, map, []}
 use Prim.Native.Nat.{ℕ, zero, suc, ◌+◌, ◌-◌, ◌%◌}
@@ -8,8 +9,6 @@ use Rattle.rules.specs.declared.Event.{Event}
 use Rattle.rules.specs.declared.Event.TheVariants.{Interrupt}
 use Rattle.rules.specs.declared.Action.{Action}
 use Rattle.rules.specs.declared.Action.TheVariants.{CarryOn, Run, Wait, Halt, Panic, Nothing}
-use Rattle.rules.specs.declared.Result.TheVariants.{Silent}
-use Rattle.rules.specs.declared.Part.TheVariants.{Absent}
 use Rattle.rules.specs.declared.Answer.{Answer}
 use Rattle.rules.specs.Rules.{rule_book}
 use Rattle.rules.proofs.Examples.{printed, call}
@@ -35,14 +34,14 @@ size n middle middle_bit last_bit other_bits bits = record { slots = n; middle =
 
 -- the machine halts or panics, and these ended with the event; these became ready, and somebody runs or carries on
 abbrev stops : Action → ℕ → Answer
-stops a x = printed 0 a Silent Absent Absent 0 x
+stops a x = printed 0 a None None None 0 x
 
 abbrev wakes : Action → ℕ → Answer
-wakes a w = printed 0 a Silent Absent Absent w 0
+wakes a w = printed 0 a None None None w 0
 
 -- after either, every event
 abbrev refused : Answer
-refused = printed 1 Nothing Silent Absent Absent 0 0
+refused = printed 1 Nothing None None None 0 0
 
 -- with all n slots taken
 full_edges : Size → List Edge
@@ -70,7 +69,7 @@ full_edges z =
     (runs 0 ∷ wakes (CarryOn 0) z.other_bits ∷ runs 1 ∷ [])
     -- everyone waits for it: it wakes them all, and the first that came runs
     ∷ edge n 0 0 (creates n ++ times n (call 0 7 0 0 0 ∷ []) ++ Interrupt 0 2 0 0 ∷ [])
-    (printed 0 Wait Silent Absent Absent 0 0 ∷ wakes (Run 0) z.bits ∷ [])
+    (printed 0 Wait None None None 0 0 ∷ wakes (Run 0) z.bits ∷ [])
     -- the whole table ends, a broad family: id 1 ends itself; the last one, of customer 0, ends id 1
     ∷ edge n 0 0 (creates n ++ call 0 2 0 0 0 ∷ call 0 1 0 0 0 ∷ [])
     (stops Halt z.bits ∷ refused ∷ [])

@@ -11,7 +11,6 @@ use lib.ListN.{length, length-map, get_or, replicate}
 use lib.Seq.{get_or-set_other}
 use borrow.Author.Tests.{eqb-true, eqb-false, ltb-true, ltb-false}
 use Rattle.rules.specs.declared.Arrival.{Arrival}
-use Rattle.rules.specs.Numbers.{over, no_such_processor}
 use Rattle.rules.specs.Machine.{Seat, Machine, blank, processors, here, turn, idle_from, fresh}
 use Rattle.rules.specs.Answers.{Outcome}
 use Rattle.rules.specs.Rules
@@ -53,12 +52,6 @@ none_at_one j k n e = rw e (go (eqb j k))
     go true = refl
     go false = refl
 
--- a refused event adds nothing
-refused_none : (b : Bool) (h : Past) (m : Machine) (x : Arrival) → idled h x.event (Rules.refused (if b then over else no_such_processor) m).answer ≡ 0
-unfolding Rules.refused
-refused_none true h m x = refl
-refused_none false h m x = refl
-
 module _ (j : ℕ) (h : Past) (m : Machine) (x : Arrival) (s : Settled m) (t : Linked h m) where
   -- the machine turned to the processor, and after the event
   abbrev there : Machine
@@ -97,11 +90,11 @@ module _ (j : ℕ) (h : Past) (m : Machine) (x : Arrival) (s : Settled m) (t : L
           let apart = eqb-false j x.processor e in
           omega (arith, other_turned j x.processor then_there after apart, still, other_turned j x.processor m l apart)
 
+  -- a refused event adds nothing
   own_out : processors m ≤ x.processor → Own j h x m (arrive m x)
   unfolding Rules.refused
   own_out l =
-      rw (no_such_refused m x l)
-      (omega (arith, none_at_one j x.processor _ (refused_none (stopped m) (turned x.processor h) m x)))
+      rw (no_such_refused m x l) (omega (arith, none_at_one j x.processor 0 refl))
 
   own_arrives : Own j h x m (arrive m x)
   own_arrives = go (ltb x.processor (processors m)) refl

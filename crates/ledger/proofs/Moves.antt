@@ -1,5 +1,5 @@
 -- Why an accepted event moves just whom `move` says, and the next is then chosen where nobody runs.
-use Rattle.std.specs.Prelude.{if◌then◌else◌}
+use Rattle.std.specs.Prelude.{if◌then◌else◌, None}
 use mathlib.Core.Path.{◌≡◌, refl, sym, ◌∙◌, ap, ap₂, subst}
 use mathlib.Core.Bool.{Bool, true, false, not, ◌&&◌, ◌||◌, true≢false}
 use mathlib.Core.List.{List, [], ◌∷◌, ◌++◌, map, append-nil}
@@ -20,13 +20,14 @@ use Rattle.rules.specs.declared.Cause.{Cause}
 use Rattle.rules.specs.declared.Cause.TheVariants.{Tlb, General}
 use Rattle.rules.specs.declared.Action.{Action}
 use Rattle.rules.specs.declared.Action.TheVariants.{Wait, Halt, Panic, PassUp}
-use Rattle.rules.specs.declared.Part.TheVariants.{Absent}
 use Rattle.rules.specs.declared.Answer.{Answer}
 use Rattle.rules.specs.Words.{first, those, any, front, rest, without, count, Single}
 use Rattle.rules.specs.Numbers.{top, sub_devices}
 use Rattle.rules.proofs.Cases.{if_cases, first_cases, single_cases, get_or_past, and_left}
 use Rattle.rules.proofs.Lines.{those_append, those_those}
-use Rattle.rules.specs.Machine.{Process, Waiter, Machine, Status, Halted, Panicked, with_sem, with_status, is_high, next_line, living, living_of, ceiling, at, line, back, block, dispatch, wake, wake_all, named, family, kill, lowest_free, child_of, newborn, birth, longer, gap, charge}
+use Rattle.rules.specs.declared.Status.{Status}
+use Rattle.rules.specs.declared.Status.TheVariants.{Halted, Panicked}
+use Rattle.rules.specs.Machine.{Process, Waiter, Machine, with_sem, with_status, is_high, next_line, living, living_of, ceiling, at, line, back, block, dispatch, wake, wake_all, named, family, kill, lowest_free, child_of, newborn, birth, longer, gap, charge}
 use Rattle.rules.proofs.Living.{sum_charged_same}
 use Rattle.rules.specs.Answers.{Outcome, plain, mask, giving, bearing, ending, waking, naming}
 use Rattle.rules.specs.Rules
@@ -142,7 +143,7 @@ nobody_wakes l m o e s =
 abbrev move_by : Event → Machine → Process → Move
 move_by e m p = first (target_by e m p) (if passed_up e m then none else carried_out e m) ends
 
-stays : (m : Machine) (x : Answer) (p : Process) (a : Action) → keeps_running a ≡ true → x.newborn ≡ Absent → x.woken ≡ 0 → x.ended ≡ 0 → x.idled ≡ 0 → m.running ≡ p ∷ [] → Moved none m (act a x m)
+stays : (m : Machine) (x : Answer) (p : Process) (a : Action) → keeps_running a ≡ true → x.newborn ≡ None → x.woken ≡ 0 → x.ended ≡ 0 → x.idled ≡ 0 → m.running ≡ p ∷ [] → Moved none m (act a x m)
 stays m x p a on b u w i r = as_move none m x m _ refl b (u ∙ no_mask) (w ∙ no_mask) refl i (goes_on x p a m on r)
 
 -- those of a ready line who are spared, and behind them whoever ran and is spared
@@ -230,7 +231,7 @@ terminate now p a1 a2 a3 m r = named_one (if eqb a1 0 then p.id else a1)
         (λ f. as_move (ends q.id) m (giving (pos 0) (ending q.id m plain)) (back (kill q.id m)) _ (spared_lists q.id m) refl no_mask refl refl refl
         (schedules _ (back (kill q.id m)) refl)))))
 
-blocks : (l : Line) (x : Answer) (m : Machine) → x.newborn ≡ Absent → x.woken ≡ 0 → x.ended ≡ 0 → x.idled ≡ 0 → Moved (joins l) m (Rules.schedule x (block l m))
+blocks : (l : Line) (x : Answer) (m : Machine) → x.newborn ≡ None → x.woken ≡ 0 → x.ended ≡ 0 → x.idled ≡ 0 → Moved (joins l) m (Rules.schedule x (block l m))
 unfolding block
 blocks l x m b u w i = as_move (joins l) m x (block l m) _ refl b (u ∙ no_mask) (w ∙ no_mask) refl i (schedules x (block l m) refl)
 
@@ -432,7 +433,7 @@ module _ (now : ℕ) (m : Machine) where
 
 -- ── An accepted event: m is the machine before, and the gap is charged first ──
 
-pub moves_hold : (m : Machine) (e : Event) → Single m.running → Rules.refusal m e ≡ 0 → Moved (move e m) (charge (Rules.clock e) m) (step m e)
+pub moves_hold : (m : Machine) (e : Event) → Single m.running → Rules.refusal m e ≡ None → Moved (move e m) (charge (Rules.clock e) m) (step m e)
 unfolding Rules.rows charge
 moves_hold m e s ok =
     let now = Rules.clock e in

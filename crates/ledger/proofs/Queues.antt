@@ -1,6 +1,6 @@
 -- Why the lines and the count that events and answers tell are the machine's, and who is run is the one whose turn it
 -- is.
-use Rattle.std.specs.Prelude.{if◌then◌else◌}
+use Rattle.std.specs.Prelude.{if◌then◌else◌, Option, None, option_to_list}
 use mathlib.Core.Path.{◌≡◌, refl, sym, ◌∙◌, ap, ap₂, subst}
 use mathlib.Core.Bool.{Bool, true, false, not, ◌||◌, true≢false}
 use mathlib.Core.List.{List, [], ◌∷◌, ◌++◌, map, map-append, append-nil}
@@ -17,7 +17,6 @@ use Rattle.rules.specs.declared.Arrival.{Arrival}
 use Rattle.rules.specs.declared.Line.{Line}
 use Rattle.rules.specs.declared.Action.{Action}
 use Rattle.rules.specs.declared.Action.TheVariants.{CarryOn, Run, Wait, Halt, Panic, PassUp, Nothing}
-use Rattle.rules.specs.declared.Part.{Part}
 use Rattle.rules.specs.declared.Answer.{Answer}
 use Rattle.rules.specs.Words.{first, those, front, rest, without, any, among, sum, count, many, Single, All}
 use Rattle.rules.specs.Numbers.{most_in_a_row}
@@ -36,7 +35,7 @@ use Rattle.rules.proofs.Sound.{Settled, sound_charged, settled}
 use Rattle.rules.proofs.Tables.{sound, tables_turned, arrives}
 use Rattle.rules.proofs.Turns.{high_turned, low_turned, four_turned, waiting_turned}
 use Rattle.rules.proofs.Arrivals.{arrive_cases}
-use Rattle.ledger.specs.History.{mask_bits, slots_in, Birth, Past, Queues, priority_by, high_in, keeps_running, slot_run, newborn_slots, ended_slots, woken_slots, goes_back, born_by, spared_slots, leaver, comers, ready_then, run_from, queues_after, accepted, onward, turned, arrived, first_past, past}
+use Rattle.ledger.specs.History.{mask_bits, slots_in, Birth, Past, Queues, priority_by, high_in, keeps_running, slot_run, ended_slots, woken_slots, goes_back, born_by, spared_slots, leaver, comers, ready_then, run_from, queues_after, accepted, onward, turned, arrived, first_past, past}
 use Rattle.ledger.specs.Choices.{whose_turn, Choosing, Queued, Lists, lists_of, joining, chosen}
 use Rattle.ledger.specs.Kills.{passed_up, terminates, valid_name, target_by, target}
 use Rattle.ledger.specs.Moves.{Move, none, steps_back, joins, first_wakes, all_wake, is_born, ends, call_moves, carried_out, move, moved, woken, ended, newborn_part, Acts, Moved}
@@ -417,8 +416,8 @@ module _ (h : Past) (e : Event) (k : Machine) (o : Outcome) (w : Moved (move e k
 
   comers_are : comers h e a ≡ slots_of (joiners v k)
   comers_are =
-      ap (λ (b : Part). newborn_slots b ++ (those (λ s. among s (woken_slots a)) h.queues.waiting ++ (if goes_back e then leaver h a else []))) w.newborn_told
-      ∙ ap₂ (λ (ws ls : List ℕ). newborn_slots (newborn_part v k) ++ (ws ++ (if goes_back e then ls else []))) woken_are leaver_is
+      ap (λ (b : Option ℕ). option_to_list b ++ (those (λ s. among s (woken_slots a)) h.queues.waiting ++ (if goes_back e then leaver h a else []))) w.newborn_told
+      ∙ ap₂ (λ (ws ls : List ℕ). option_to_list (newborn_part v k) ++ (ws ++ (if goes_back e then ls else []))) woken_are leaver_is
       ∙ go v (move_suits e k one)
     where
       born : (ps : List Process) → Single ps → first ps ⊥ (λ p. Unit {0}) → (u : Process → Process) → ((p : Process) → (u p).slot ≡ lowest_free k) → lowest_free k ∷ [] ≡ slots_of (map u ps)
@@ -428,7 +427,7 @@ module _ (h : Past) (e : Event) (k : Machine) (o : Outcome) (w : Moved (move e k
       awake : (ns : List ℕ) → ns ++ (if goes_back e then [] else []) ≡ ns
       awake ns = ap (λ (ms : List ℕ). ns ++ ms) (if_same (goes_back e) []) ∙ append-nil ns
 
-      go : (u : Move) → Suits e k u → newborn_slots (newborn_part u k) ++ (slots_of (woken u k) ++ (if goes_back e then slots_of (leaving u k) else [])) ≡ slots_of (joiners u k)
+      go : (u : Move) → Suits e k u → option_to_list (newborn_part u k) ++ (slots_of (woken u k) ++ (if goes_back e then slots_of (leaving u k) else [])) ≡ slots_of (joiners u k)
       go none s = if_same (goes_back e) []
       go steps_back s = rw s refl
       go (joins l) s = rw s refl
@@ -558,7 +557,7 @@ module _ (slots sems customers seats : ℕ) (few : slots ≤ mask_bits) where
   settled_so : (m : Machine) → Obeys m → Settled m
   settled_so m t = (sound slots sems customers seats m t, t.one_runs, t.one_each)
 
-  module _ (h : Past) (m : Machine) (e : Event) (t : Obeys m) (l : Linked h m) (q : Queued h.queues m) (ok : Rules.refusal m e ≡ 0) where
+  module _ (h : Past) (m : Machine) (e : Event) (t : Obeys m) (l : Linked h m) (q : Queued h.queues m) (ok : Rules.refusal m e ≡ None) where
     -- the machine with its gap charged, and the answer
     k : Machine
     k = charge (Rules.clock e) m
@@ -615,7 +614,7 @@ module _ (slots sems customers seats : ℕ) (few : slots ≤ mask_bits) where
 
   queued : (h : Past) (m : Machine) (e : Event) → Obeys m → Linked h m → Queued h.queues m → Queued (onward h e (step m e).answer).queues (step m e).after
   unfolding Rules.refused
-  queued h m e t l q = by_verdict (λ (o : Outcome). Queued (onward h e o.answer).queues o.after) m e (queued_accepted h m e t l q) (λ no. rw no q)
+  queued h m e t l q = by_verdict (λ (o : Outcome). Queued (onward h e o.answer).queues o.after) m e (queued_accepted h m e t l q) (λ _ _. q)
 
   -- ── At any processor, and any events: the lines are the same whoever's seat is taken ──
 

@@ -1,5 +1,5 @@
 -- Why everything kept and answered is in range where the words and bytes of the events are.
-use Rattle.std.specs.Prelude.{if◌then◌else◌}
+use Rattle.std.specs.Prelude.{if◌then◌else◌, Option, Some, None, IfSome}
 use mathlib.Core.Path.{◌≡◌, refl, sym, subst}
 use mathlib.Core.Bool.{Bool, true, false, ◌&&◌, ◌||◌}
 use mathlib.Core.List.{List, [], ◌∷◌, map}
@@ -20,12 +20,11 @@ use Rattle.rules.specs.declared.Line.TheVariants.{Semaphore, Device}
 use Rattle.rules.specs.declared.Cause.{Cause}
 use Rattle.rules.specs.declared.Cause.TheVariants.{Tlb, General}
 use Rattle.rules.specs.declared.Action.{Action}
-use Rattle.rules.specs.declared.Result.{Result}
-use Rattle.rules.specs.declared.Part.{Part}
-use Rattle.rules.specs.declared.Part.TheVariants.{Absent, Number}
+use Rattle.rules.specs.declared.Refusal.{Refusal}
+use Rattle.rules.specs.declared.Refusal.TheVariants.{Over, ClockBack, TimeFull, NobodyRuns, NoSuchLine, NoSuchCode, NoSuchProcessor}
 use Rattle.rules.specs.declared.Answer.{Answer}
 use Rattle.rules.specs.Words.{first, those, any, sum, count, many, All}
-use Rattle.rules.specs.Numbers.{time_limit, sub_devices}
+use Rattle.rules.specs.Numbers.{time_limit, sub_devices, refusal_number}
 use Rattle.rules.proofs.Cases.{if_cases, first_cases, All-map, All-over, get_or_cases}
 use Rattle.rules.proofs.Sums.{sum_over, sum_front}
 use Rattle.rules.specs.Machine.{Process, Seat, Machine, living, next_line, line, family, rid_of, longer, child_of, newborn, gap, charge, blank, processors, here, turn, idle_from, fresh}
@@ -43,7 +42,7 @@ use Rattle.rules.proofs.Arrivals.{arrive_cases}
 use Rattle.ledger.specs.History.{a2_of, a3_of}
 use Rattle.ledger.specs.Ids.{NewbornTold}
 use Rattle.ledger.specs.Moves.{Move, none, steps_back, joins, first_wakes, all_wake, is_born, ends, move, others, left, woken, ended, Moved}
-use Rattle.ledger.specs.Ranges.{word, byte, long, WellFormed, Ranged, FitsResult, Below, Fits}
+use Rattle.ledger.specs.Ranges.{word, byte, long, WellFormed, Ranged, FitsResult, Fits}
 use Rattle.ledger.proofs.Lines.{line_few}
 use Rattle.ledger.proofs.Each.{moved_each}
 use Rattle.ledger.proofs.Verdicts.{by_verdict}
@@ -118,7 +117,7 @@ module _ (now n x y : ℕ) (ok : bad_line (Interrupt now n x y) ≡ false) (thre
 -- an answer so far
 record Neat (x : Answer) : Type 0 where
   result : FitsResult x.result
-  device : Below sub_devices x.device
+  device : IfSome x.device (λ d. d < sub_devices)
 
 neat : Neat plain
 neat = record { result = tt; device = tt }
@@ -230,7 +229,7 @@ interrupt now n x y m ok fx fy =
 
 -- ── Who calls ──
 
-module _ (slots sems customers seats : ℕ) (m : Machine) (e : Event) (t : Tables slots sems customers seats m) (w : Ranged m) (ok : Rules.refusal m e ≡ 0) where
+module _ (slots sems customers seats : ℕ) (m : Machine) (e : Event) (t : Tables slots sems customers seats m) (w : Ranged m) (ok : Rules.refusal m e ≡ None) where
   abbrev g : ℕ
   g = gap (Rules.clock e) m
 
@@ -341,33 +340,30 @@ newborn_words (Exception now code) k f (p ∷ ps) = ((omega arith, omega arith),
 
 -- ── Every event ──
 
-newborn_within : (slots : ℕ) (p : Part) (r : Result) (m : Machine) → m.slots ≡ slots → NewbornTold p r m → Below slots p
-newborn_within slots Absent r m e h = tt
-newborn_within slots (Number s) r m e h = subst (λ (i : ℕ). s < i) e h.there
+newborn_within : (slots : ℕ) (p : Option ℕ) (r : Option ℤ) (m : Machine) → m.slots ≡ slots → NewbornTold p r m → IfSome p (λ s. s < slots)
+newborn_within slots None r m e h = tt
+newborn_within slots (Some s) r m e h = subst (λ (i : ℕ). s < i) e h.there
 
 clock_within : (e : Event) → WellFormed e → Rules.clock e < word
 clock_within (Call now mode a0 a1 a2 a3) f = f.0
 clock_within (Interrupt now n x y) f = f.0
 clock_within (Exception now code) f = f.0
 
-number_within : (rs : List (ℕ × Bool)) → All (λ r. r.0 < byte) rs → first (those (λ r. r.1) rs) 0 (λ r. r.0) < byte
-number_within [] h = omega arith
-number_within (r ∷ rs) h = go r.1 (number_within rs h.1)
-  where
-    go : (b : Bool) → first (those (λ r. r.1) rs) 0 (λ r. r.0) < byte → first (if b then r ∷ those (λ r. r.1) rs else those (λ r. r.1) rs) 0 (λ r. r.0) < byte
-    go true ih = h.0
-    go false ih = ih
-
-refusal_within : (m : Machine) (e : Event) → Rules.refusal m e < byte
-unfolding Rules.refusal Rules.rows
-refusal_within m e = number_within (Rules.rows m e) (omega arith, (omega arith, (omega arith, (omega arith, (omega arith, (omega arith, tt))))))
+number_within : (r : Refusal) → refusal_number r < byte
+number_within Over = omega arith
+number_within ClockBack = omega arith
+number_within TimeFull = omega arith
+number_within NobodyRuns = omega arith
+number_within NoSuchLine = omega arith
+number_within NoSuchCode = omega arith
+number_within NoSuchProcessor = omega arith
 
 pub record InRange (slots seats : ℕ) (o : Outcome) : Type 0 where
   pub kept : Ranged o.after
   pub said : Fits slots seats o.answer
 
 module _ (slots sems customers seats : ℕ) (m : Machine) (e : Event) (t : Tables slots sems customers seats m) (w : Ranged m) (f : WellFormed e) where
-  accepted_range : Rules.refusal m e ≡ 0 → InRange slots seats (step m e)
+  accepted_range : Rules.refusal m e ≡ None → InRange slots seats (step m e)
   unfolding Rules.rows charge Words
   accepted_range ok =
       let now = Rules.clock e in
@@ -382,7 +378,7 @@ module _ (slots sems customers seats : ℕ) (m : Machine) (e : Event) (t : Table
       rw (accepts m e ok) record {
         kept = record { last = subst (λ (i : ℕ). i < word) (sym a.1) (clock_within e f); lasts = subst (All (λ s. s.last < word)) (sym v.elsewhere) (lasts_within (move e m) k w.lasts); words = moved_each Words m e o v (each_charged Words (λ g p h. h) now m w.words) (newborn_words e k f k.running) };
         said = record {
-          refusal = omega (arith, a.0);
+          refusal = rw a.0 (omega arith);
           runner = subst (All (λ s. s < slots)) (named_after k e one).1 (All-over (λ s. s < slots) (λ p. p.slot) o.after.running (all_running (λ p. p.slot < slots) o.after (subst (λ (i : ℕ). All (λ p. p.slot < i) (living o.after)) t'.slots_there (seated o.after (sound slots sems customers seats o.after t')))));
           result = n.result;
           newborn = newborn_within slots o.answer.newborn o.answer.result m t.slots_there (rw (accepts m e ok) at (newborn_told m e (sound slots sems customers seats m t, t.one_runs, t.one_each)));
@@ -395,9 +391,9 @@ module _ (slots sems customers seats : ℕ) (m : Machine) (e : Event) (t : Table
 
   pub in_range : InRange slots seats (step m e)
   unfolding Rules.refused
-  in_range = by_verdict (InRange slots seats) m e accepted_range (λ _. record {
+  in_range = by_verdict (InRange slots seats) m e accepted_range (λ r _. record {
     kept = w;
-    said = record { refusal = refusal_within m e; runner = tt; result = tt; newborn = tt; device = tt; woken = pow_pos slots; ended = pow_pos slots; idled = pow_pos seats };
+    said = record { refusal = number_within r; runner = tt; result = tt; newborn = tt; device = tt; woken = pow_pos slots; ended = pow_pos slots; idled = pow_pos seats };
   })
 
 -- a seat is taken

@@ -1,5 +1,5 @@
 -- Why what births and sums tell is what the machine keeps, and what −6, −8 and −9 answer.
-use Rattle.std.specs.Prelude.{if◌then◌else◌}
+use Rattle.std.specs.Prelude.{if◌then◌else◌, Some, None}
 use mathlib.Core.Path.{◌≡◌, refl, sym, ◌∙◌, ap, ap₂, subst}
 use mathlib.Core.Bool.{Bool, true, false, true≢false}
 use mathlib.Core.List.{List, [], ◌∷◌}
@@ -11,7 +11,6 @@ use borrow.Author.Tests.{eqb-true}
 use Rattle.rules.specs.declared.Mode.TheVariants.{User, Kernel}
 use Rattle.rules.specs.declared.Event.{Event}
 use Rattle.rules.specs.declared.Event.TheVariants.{Call, Interrupt, Exception}
-use Rattle.rules.specs.declared.Result.TheVariants.{Says}
 use Rattle.rules.specs.Words.{first, Single, All}
 use Rattle.rules.specs.Machine.{Process, Machine, living, longer, gap, charge}
 use Rattle.rules.proofs.Living.{all_running}
@@ -35,20 +34,20 @@ all_told h m k = go (living m) k.told.known k.belongs k.ranked k.handled
 -- ── What the three calls answer ──
 
 module _ (p : Process) (a1 a2 a3 : ℕ) (m : Machine) where
-  six : (n : ℕ) → n ≡ 5 → (service Kernel (negsuc n) p a1 a2 a3 m).answer.result ≡ Says (pos p.time)
+  six : (n : ℕ) → n ≡ 5 → (service Kernel (negsuc n) p a1 a2 a3 m).answer.result ≡ Some (pos p.time)
   unfolding service Rules.services Rules.cpu_time Rules.carry_on
   six n e = rw e refl
 
-  eight : (n : ℕ) → n ≡ 7 → (service Kernel (negsuc n) p a1 a2 a3 m).answer.result ≡ Says (pos p.handle)
+  eight : (n : ℕ) → n ≡ 7 → (service Kernel (negsuc n) p a1 a2 a3 m).answer.result ≡ Some (pos p.handle)
   unfolding service Rules.services Rules.support Rules.carry_on
   eight n e = rw e refl
 
-  nine : (n : ℕ) → n ≡ 8 → (service Kernel (negsuc n) p a1 a2 a3 m).answer.result ≡ Says (pos (if eqb a1 0 then p.id else first p.ancestors 0 (λ a. a)))
+  nine : (n : ℕ) → n ≡ 8 → (service Kernel (negsuc n) p a1 a2 a3 m).answer.result ≡ Some (pos (if eqb a1 0 then p.id else first p.ancestors 0 (λ a. a)))
   unfolding service Rules.services Rules.identity Rules.carry_on
   nine n e = rw e refl
 
 -- the event is the call of whoever runs
-by_runner : (now n a1 a2 a3 : ℕ) (m : Machine) (p : Process) → m.running ≡ p ∷ [] → refusal m (Call now Kernel (negsuc n) a1 a2 a3) ≡ 0
+by_runner : (now n a1 a2 a3 : ℕ) (m : Machine) (p : Process) → m.running ≡ p ∷ [] → refusal m (Call now Kernel (negsuc n) a1 a2 a3) ≡ None
     → step m (Call now Kernel (negsuc n) a1 a2 a3) ≡ service Kernel (negsuc n) (longer (gap now m) p) a1 a2 a3 (charge now m)
 unfolding Rules.call charge
 by_runner now n a1 a2 a3 m p r ok = accepts m (Call now Kernel (negsuc n) a1 a2 a3) ok ∙ ran
@@ -57,7 +56,7 @@ by_runner now n a1 a2 a3 m p r ok = accepts m (Call now Kernel (negsuc n) a1 a2 
     ran = rw r refl
 
 module _ (ran : ℕ → ℕ) (h : Past) (m : Machine) (one : Single m.running) (k : Linked h m) (t : All (λ p. p.time ≡ ran p.id) (living m)) where
-  module _ (now n a1 a2 a3 : ℕ) (ok : refusal m (Call now Kernel (negsuc n) a1 a2 a3) ≡ 0) (p : Process) (r : m.running ≡ p ∷ []) where
+  module _ (now n a1 a2 a3 : ℕ) (ok : refusal m (Call now Kernel (negsuc n) a1 a2 a3) ≡ None) (p : Process) (r : m.running ≡ p ∷ []) where
     abbrev e : Event
     e = Call now Kernel (negsuc n) a1 a2 a3
 
@@ -88,7 +87,7 @@ module _ (ran : ℕ → ℕ) (h : Past) (m : Machine) (one : Single m.running) (
     answer : (step m e).answer.result ≡ (service Kernel (negsuc n) (longer (gap now m) p) a1 a2 a3 (charge now m)).answer.result
     answer = ap (λ (o : Outcome). o.answer.result) (by_runner now n a1 a2 a3 m p r ok)
 
-    result : first (asked ran h e) (Unit {0}) (λ v. (step m e).answer.result ≡ Says (pos v))
+    result : first (asked ran h e) (Unit {0}) (λ v. (step m e).answer.result ≡ Some (pos v))
     result = go (eqb (suc n) 6) refl (eqb (suc n) 8) refl (eqb (suc n) 9) refl
       where
         q : Process
@@ -97,23 +96,23 @@ module _ (ran : ℕ → ℕ) (h : Past) (m : Machine) (one : Single m.running) (
         go : (b : Bool) → eqb (suc n) 6 ≡ b → (c : Bool) → eqb (suc n) 8 ≡ c → (d : Bool) → eqb (suc n) 9 ≡ d
             → first (if b then time_by ran h e ∷ []
             else (if c then handle_by (running_id h) h.births ∷ []
-            else (if d then (if eqb a1 0 then running_id h else parent_by (running_id h) h.births) ∷ [] else []))) (Unit {0}) (λ v. (step m e).answer.result ≡ Says (pos v))
-        go true x c y d z = let i = eqb-true (suc n) 6 x in answer ∙ six (longer (gap now m) p) a1 a2 a3 (charge now m) n (omega arith) ∙ ap (λ (v : ℕ). Says (pos v)) time_told
-        go false x true y d z = let i = eqb-true (suc n) 8 y in answer ∙ eight (longer (gap now m) p) a1 a2 a3 (charge now m) n (omega arith) ∙ ap (λ (v : ℕ). Says (pos v)) handle_told
-        go false x false y true z = let i = eqb-true (suc n) 9 z in answer ∙ nine (longer (gap now m) p) a1 a2 a3 (charge now m) n (omega arith) ∙ ap (λ (v : ℕ). Says (pos v)) id_told
+            else (if d then (if eqb a1 0 then running_id h else parent_by (running_id h) h.births) ∷ [] else []))) (Unit {0}) (λ v. (step m e).answer.result ≡ Some (pos v))
+        go true x c y d z = let i = eqb-true (suc n) 6 x in answer ∙ six (longer (gap now m) p) a1 a2 a3 (charge now m) n (omega arith) ∙ ap (λ (v : ℕ). Some (pos v)) time_told
+        go false x true y d z = let i = eqb-true (suc n) 8 y in answer ∙ eight (longer (gap now m) p) a1 a2 a3 (charge now m) n (omega arith) ∙ ap (λ (v : ℕ). Some (pos v)) handle_told
+        go false x false y true z = let i = eqb-true (suc n) 9 z in answer ∙ nine (longer (gap now m) p) a1 a2 a3 (charge now m) n (omega arith) ∙ ap (λ (v : ℕ). Some (pos v)) id_told
         go false x false y false z = tt
 
-  a_call : (now n a1 a2 a3 : ℕ) → refusal m (Call now Kernel (negsuc n) a1 a2 a3) ≡ 0
-      → first (asked ran h (Call now Kernel (negsuc n) a1 a2 a3)) (Unit {0}) (λ v. (step m (Call now Kernel (negsuc n) a1 a2 a3)).answer.result ≡ Says (pos v))
+  a_call : (now n a1 a2 a3 : ℕ) → refusal m (Call now Kernel (negsuc n) a1 a2 a3) ≡ None
+      → first (asked ran h (Call now Kernel (negsuc n) a1 a2 a3)) (Unit {0}) (λ v. (step m (Call now Kernel (negsuc n) a1 a2 a3)).answer.result ≡ Some (pos v))
   unfolding Rules.rows Rules.needs_runner
   a_call now n a1 a2 a3 ok = go m.running refl one (passed m (Call now Kernel (negsuc n) a1 a2 a3) ok).1.1.1.1.1.0
     where
       go : (ps : List Process) → m.running ≡ ps → Single ps → first ps true (λ p. false) ≡ false
-          → first (asked ran h (Call now Kernel (negsuc n) a1 a2 a3)) (Unit {0}) (λ v. (step m (Call now Kernel (negsuc n) a1 a2 a3)).answer.result ≡ Says (pos v))
+          → first (asked ran h (Call now Kernel (negsuc n) a1 a2 a3)) (Unit {0}) (λ v. (step m (Call now Kernel (negsuc n) a1 a2 a3)).answer.result ≡ Some (pos v))
       go [] r s f = absurd (true≢false f)
       go (p ∷ ps) r s f = result now n a1 a2 a3 ok p (r ∙ ap (λ (qs : List Process). p ∷ qs) s)
 
-  pub tells_hold : (e : Event) → refusal m e ≡ 0 → Tells ran h e (step m e).answer
+  pub tells_hold : (e : Event) → refusal m e ≡ None → Tells ran h e (step m e).answer
   tells_hold (Call now User a0 a1 a2 a3) ok = record { result_told = tt }
   tells_hold (Call now Kernel (pos n) a1 a2 a3) ok = record { result_told = tt }
   tells_hold (Call now Kernel (negsuc n) a1 a2 a3) ok = record { result_told = a_call now n a1 a2 a3 ok }

@@ -1,11 +1,9 @@
 -- WHO MOVES. What an accepted event does to the places: nobody moves but as one of seven rows says, and then the next
 -- is chosen where nobody runs. So everybody else keeps their place and their order within their line.
-use Rattle.std.specs.Prelude.{◌≡◌, true, false, not, List, [], ◌∷◌, ◌++◌, map, ℕ, eqb, pos, negsuc, get_or, if◌then◌else◌}
+use Rattle.std.specs.Prelude.{◌≡◌, true, false, not, List, [], ◌∷◌, ◌++◌, map, ℕ, eqb, pos, negsuc, get_or, if◌then◌else◌, Option, Some, None}
 use Rattle.rules.specs.declared.Event.{Event}
 use Rattle.rules.specs.declared.Event.TheVariants.{Call, Interrupt, Exception}
 use Rattle.rules.specs.declared.Action.{Action}
-use Rattle.rules.specs.declared.Part.{Part}
-use Rattle.rules.specs.declared.Part.TheVariants.{Absent, Number}
 use Rattle.rules.specs.declared.Line.{Line}
 use Rattle.rules.specs.declared.Line.TheVariants.{Semaphore, Device, PseudoClock}
 use Rattle.rules.specs.Words.{first, those, front, without}
@@ -117,14 +115,14 @@ ended (is_born priority handle) m = []
 ended (ends n) m = family_of n m
 
 -- the newborn's slot
-abbrev pub newborn_part : Move → Machine → Part
-newborn_part none m = Absent
-newborn_part steps_back m = Absent
-newborn_part (joins l) m = Absent
-newborn_part (first_wakes l) m = Absent
-newborn_part (all_wake l) m = Absent
-newborn_part (is_born priority handle) m = Number (lowest_free m)
-newborn_part (ends n) m = Absent
+abbrev pub newborn_part : Move → Machine → Option ℕ
+newborn_part none m = None
+newborn_part steps_back m = None
+newborn_part (joins l) m = None
+newborn_part (first_wakes l) m = None
+newborn_part (all_wake l) m = None
+newborn_part (is_born priority handle) m = Some (lowest_free m)
+newborn_part (ends n) m = None
 
 -- whoever keeps running is told to carry on, or is passed up; else the action is run for the one who is chosen, and no
 -- run where nobody is

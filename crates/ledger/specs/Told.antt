@@ -1,11 +1,10 @@
 -- WHAT IS TOLD IS SO. What births tell of everyone alive is what the machine keeps of them: their id by their slot,
 -- their ancestors, customer, priority and support handle. And what −6, −8 and −9 answer is what the sums and the births
 -- tell.
-use Rattle.std.specs.Prelude.{◌≡◌, List, [], ◌∷◌, ℕ, suc, ◌+◌, eqb, pos, negsuc, if◌then◌else◌}
+use Rattle.std.specs.Prelude.{◌≡◌, List, [], ◌∷◌, ℕ, suc, ◌+◌, eqb, pos, negsuc, if◌then◌else◌, Some}
 use Rattle.rules.specs.declared.Mode.TheVariants.{User, Kernel}
 use Rattle.rules.specs.declared.Event.{Event}
 use Rattle.rules.specs.declared.Event.TheVariants.{Call, Interrupt, Exception}
-use Rattle.rules.specs.declared.Result.TheVariants.{Says}
 use Rattle.rules.specs.declared.Answer.{Answer}
 use Rattle.rules.specs.Words.{first}
 use Rattle.rules.specs.Machine.{Process}
@@ -40,4 +39,4 @@ asked ran h (Exception now code) = []
 
 -- the answer a to an accepted event e after the past h
 pub record Tells (ran : ℕ → ℕ) (h : Past) (e : Event) (a : Answer) : Type 0 where
-  pub result_told : first (asked ran h e) (Unit {0}) (λ n. a.result ≡ Says (pos n))
+  pub result_told : first (asked ran h e) (Unit {0}) (λ n. a.result ≡ Some (pos n))

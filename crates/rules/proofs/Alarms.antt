@@ -1,5 +1,6 @@
 -- Alarms first, 02, (vi): its edges, one table and one statement, proved by computing. A row is said and read as those
 -- of Edges are.
+use Rattle.std.specs.Prelude.{Some, None}
 use mathlib.Core.Path.{◌≡◌, refl}
 use mathlib.Core.List.{List, ◌∷◌, ◌++◌, []}
 use Prim.Native.Nat.{ℕ}
@@ -7,8 +8,6 @@ use lib.ListN.{replicate}
 use Rattle.rules.specs.declared.Event.{Event}
 use Rattle.rules.specs.declared.Event.TheVariants.{Interrupt}
 use Rattle.rules.specs.declared.Action.TheVariants.{CarryOn, Run, Wait}
-use Rattle.rules.specs.declared.Result.TheVariants.{Silent}
-use Rattle.rules.specs.declared.Part.TheVariants.{Absent, Number}
 use Rattle.rules.specs.declared.Answer.{Answer}
 use Rattle.rules.specs.Numbers.{base_slots}
 use Rattle.rules.specs.Rules.{rule_book}
@@ -50,10 +49,10 @@ tick = Interrupt 0 2 0 0
 
 -- the one in the slot carries on, these having been woken; the machine waits, these having ended
 abbrev goes_on : ℕ → ℕ → Answer
-goes_on s w = printed 0 (CarryOn s) Silent Absent Absent w 0
+goes_on s w = printed 0 (CarryOn s) None None None w 0
 
 abbrev stands : ℕ → Answer
-stands x = printed 0 Wait Silent Absent Absent 0 x
+stands x = printed 0 Wait None None None 0 x
 
 -- Id 1 is low, in slot 0; children come in slots 1, 2, 3, .. , and everyone's id is one more than the slot.
 alarms : ℕ → List Edge
@@ -78,7 +77,7 @@ alarms n =
     (runs 2 ∷ goes_on 2 2 ∷ runs 1 ∷ [])
     -- so does the one that a sub-device wakes
     ∷ edge n 0 0 (high ∷ low ∷ yields ∷ call 0 5 0 0 0 ∷ Interrupt 0 3 1 0 ∷ yields ∷ [])
-    (printed 0 (CarryOn 2) Silent Absent (Number 0) 2 0 ∷ runs 1 ∷ [])
+    (printed 0 (CarryOn 2) None None (Some 0) 2 0 ∷ runs 1 ∷ [])
     -- a tick wakes a low one, two high ones and a low one: each goes to the end of its own line, in order
     ∷ edge n 0 0 (low ∷ high ∷ low ∷ high ∷ sleeps ∷ sleeps ∷ sleeps ∷ sleeps ∷ tick ∷ sleeps ∷ sleeps ∷ sleeps ∷ sleeps ∷ sleeps ∷ [])
     (runs 2 ∷ runs 4 ∷ runs 1 ∷ runs 3 ∷ goes_on 3 23 ∷ runs 2 ∷ runs 4 ∷ runs 0 ∷ runs 1 ∷ stands 0 ∷ [])
@@ -92,7 +91,7 @@ alarms n =
     -- the count is kept over a wait: the fourth high choice ends itself and its low child, the only ready one; the tick
     -- wakes a low and a high one, and the low one runs
     ∷ edge n 0 0 (high ∷ high ∷ sleeps ∷ sleeps ∷ low ∷ replicate 4 yields ++ ends 0 ∷ tick ∷ yields ∷ [])
-    (replicate 4 (runs 2) ++ stands 12 ∷ printed 0 (Run 0) Silent Absent Absent 3 0 ∷ runs 1 ∷ [])
+    (replicate 4 (runs 2) ++ stands 12 ∷ printed 0 (Run 0) None None None 3 0 ∷ runs 1 ∷ [])
     -- a low one is killed while four were counted: the choice that follows is made with the low line empty, and the
     -- count begins again when it is filled again
     ∷ edge n 0 0 (high ∷ low ∷ sleeps ∷ replicate 3 yields ++ ends 3 ∷ low ∷ replicate 5 yields)

@@ -1,9 +1,9 @@
 -- Whoever has no parent is id 1, and a child of a customer other than 0 is of its parent's customer.
 use Rattle.std.specs.Prelude.{if◌then◌else◌}
-use mathlib.Core.Path.{◌≡◌, refl, sym, ◌∙◌, ap, subst}
+use mathlib.Core.Path.{◌≡◌, refl, sym, subst}
 use mathlib.Core.Bool.{Bool, true, false, ◌||◌}
 use mathlib.Core.List.{List, ◌∷◌, [], map}
-use Prim.Native.Nat.{ℕ, ◌+◌, ◌/◌, ◌≤◌, ◌<◌}
+use Prim.Native.Nat.{ℕ, ◌/◌, ◌≤◌, ◌<◌}
 use native.Mathlib.Omega.{arith}
 use lib.Dec.{eqb, ltb}
 use borrow.Author.Tests.{eq-eqb, ne_eqb}
@@ -18,7 +18,7 @@ use Rattle.rules.proofs.Cases.{All-append, All-each, All-both}
 use Rattle.rules.proofs.Lines.{count_le, many_fail}
 use Rattle.rules.proofs.Living.{Same, process, living_sum, all_running, each_killed, each_born, each_charged, fresh_living}
 use Rattle.rules.proofs.Walk.{Kept, step_keeps}
-use Rattle.rules.proofs.Sound.{sound_kept, sound_set, sound_charged, issued}
+use Rattle.rules.proofs.Sound.{sound_set, sound_charged, issued}
 use Rattle.rules.proofs.Kin.{Kin, Older, kin_kept, set_kin, charged}
 
 -- everyone in the list is of the customer that a parent among these gives it

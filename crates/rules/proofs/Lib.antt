@@ -19,7 +19,7 @@ pub mod Descent
 pub mod Places
 pub mod Lined
 pub mod Laws
-pub mod Status
+pub mod Standing
 -- Several processors: a seat is taken and taken back; an event at any processor; the mask of processors:
 pub mod Turns
 pub mod Arrivals

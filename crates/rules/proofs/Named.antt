@@ -7,14 +7,14 @@ use mathlib.Core.List.{List, [], ◌∷◌}
 use Prim.Native.Nat.pow
 use Prim.Native.Nat.{ℕ, zero, suc, ◌+◌, ◌*◌, ◌/◌, ◌%◌, ◌^◌}
 use native.Mathlib.Omega.{arith}
-use lib.Dec.{eqb, ltb}
+use lib.Dec.{ltb}
 use lib.ListN.{get_or}
 use borrow.Author.Tests.{ltb-true, ltb-false}
 use Rattle.rules.specs.declared.Event.{Event}
 use Rattle.rules.specs.declared.Arrival.{Arrival}
 use Rattle.rules.specs.declared.Answer.{Answer}
 use Rattle.rules.specs.Words.{any, count, Single}
-use Rattle.rules.proofs.Cases.{if_cases}
+use Rattle.rules.proofs.Cases.{maybe_cases}
 use Rattle.rules.specs.Machine.{Process, Seat, Machine, family, rid_of, kill, birth, charge, blank, processors, turn}
 use Rattle.rules.specs.Answers.{Outcome, processors_of, left_idle}
 use Rattle.rules.specs.Rules
@@ -81,9 +81,9 @@ unnamed k = record {
 stays_unnamed : (k : ℕ) (m : Machine) (e : Event) → Single m.running → BlankAt k m → bit k (step m e).answer.idled ≡ 0
 unfolding step Rules.refused charge
 stays_unnamed k m e one h =
-    if_cases (λ (o : Outcome). bit k o.answer.idled ≡ 0) (eqb (Rules.refusal m e) 0)
+    maybe_cases (λ (o : Outcome). bit k o.answer.idled ≡ 0) (Rules.refusal m e)
     (λ _. (perform_keeps (BlankAt k) (Unnamed k) (unnamed k) (λ i v m h. record { still_blank = h; bit_clear = no_bits k }) (charge (Rules.clock e) m) e (charge_single (Rules.clock e) m one) h).bit_clear)
-    (λ _. no_bits k)
+    (λ r no. no_bits k)
 
 pub own_not_named : (slots sems customers seats : ℕ) (m : Machine) (x : Arrival) → Rests slots sems customers seats m → bit x.processor (arrive m x).answer.idled ≡ 0
 unfolding Rules.refused

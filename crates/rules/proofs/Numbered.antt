@@ -1,18 +1,16 @@
 -- The numbers of document 01, worked out: what a line, a byte, a code, a cause, a limit or a word comes to, row by row,
 -- over machines that no start reaches too (a sum of gaps at its top, the last ids). One statement a table, proved by
 -- computing. Every number here is a plain one: nothing of specs/Numbers is named.
+use Rattle.std.specs.Prelude.{Some, None}
 use mathlib.Core.Path.{◌≡◌, refl}
 use mathlib.Core.List.{List, [], ◌∷◌, ◌++◌, map}
-use Prim.Native.Nat.{ℕ, ◌+◌, ◌^◌}
+use Prim.Native.Nat.{ℕ}
 use lib.IntN.{pos, negsuc}
 use lib.ListN.{replicate}
-use Rattle.rules.specs.declared.Mode.TheVariants.{Kernel}
 use Rattle.rules.specs.declared.Event.{Event}
-use Rattle.rules.specs.declared.Event.TheVariants.{Call, Interrupt, Exception}
+use Rattle.rules.specs.declared.Event.TheVariants.{Interrupt, Exception}
 use Rattle.rules.specs.declared.Cause.TheVariants.{Tlb, General}
 use Rattle.rules.specs.declared.Action.TheVariants.{CarryOn, Run, Wait, Halt, Panic, PassUp, Nothing}
-use Rattle.rules.specs.declared.Result.TheVariants.{Silent, Says}
-use Rattle.rules.specs.declared.Part.TheVariants.{Absent, Number}
 use Rattle.rules.specs.declared.Answer.{Answer}
 use Rattle.rules.specs.Numbers.{cause_number, word}
 use Rattle.rules.specs.Machine.{Process, Machine, On, living, blank}
@@ -49,16 +47,16 @@ told m e = (step m e).answer
 
 -- a refusal; the caller carries on, and with a result; an action and nothing beside it; the sub-device named
 abbrev no : ℕ → Answer
-no n = printed n Nothing Silent Absent Absent 0 0
+no n = printed n Nothing None None None 0 0
 
 abbrev on : Answer
-on = printed 0 (CarryOn 0) Silent Absent Absent 0 0
+on = printed 0 (CarryOn 0) None None None 0 0
 
 abbrev says : ℕ → Answer
-says n = printed 0 (CarryOn 0) (Says (pos n)) Absent Absent 0 0
+says n = printed 0 (CarryOn 0) (Some (pos n)) None None 0 0
 
 abbrev served : ℕ → Answer
-served d = printed 0 (CarryOn 0) Silent Absent (Number d) 0 0
+served d = printed 0 (CarryOn 0) None None (Some d) 0 0
 
 -- ── Limits and words ──
 
@@ -86,8 +84,8 @@ limits_told =
     ∷ says 4294967296
     ∷ says 4294967295
     ∷ says 65536
-    ∷ printed 0 (CarryOn 0) (Says (pos 2147483647)) (Number 1) Absent 0 0
-    ∷ printed 0 (CarryOn 0) (Says (negsuc 0)) Absent Absent 0 0
+    ∷ printed 0 (CarryOn 0) (Some (pos 2147483647)) (Some 1) None 0 0
+    ∷ printed 0 (CarryOn 0) (Some (negsuc 0)) None None 0 0
     ∷ []
 
 every_limit : limits ≡ limits_told
@@ -99,10 +97,10 @@ every_limit = refl
 -- every code that a byte can hold, with a handle: "0-7, 9, 10 and 12-23 are program traps, 24-28 TLB exceptions"; "code
 -- 8, 11 or above 28"
 abbrev general : Answer
-general = printed 0 (PassUp 0 General) Silent Absent Absent 0 0
+general = printed 0 (PassUp 0 General) None None None 0 0
 
 abbrev tlb : Answer
-tlb = printed 0 (PassUp 0 Tlb) Silent Absent Absent 0 0
+tlb = printed 0 (PassUp 0 Tlb) None None None 0 0
 
 codes_told : List Answer
 codes_told = replicate 8 general ++ no 6 ∷ general ∷ general ∷ no 6 ∷ replicate 12 general ++ replicate 5 tlb ++ replicate 227 (no 6)
@@ -129,7 +127,7 @@ lines_tried = below 10 ++ 255 ∷ []
 
 -- line 1 runs whoever ran again
 abbrev again : Answer
-again = printed 0 (Run 0) Silent Absent Absent 0 0
+again = printed 0 (Run 0) None None None 0 0
 
 abbrev with_bytes : ℕ → ℕ → List Answer
 with_bytes x y = map (λ n. told anyone (Interrupt 0 n x y)) lines_tried
@@ -187,7 +185,7 @@ every_terminal = refl
 -- "49 nucleus waiting lines: 48 sub-devices and the pseudo-clock": alone on one of them the machine waits; on a
 -- semaphore it panics; past the last sub-device the call is a trap
 every_nucleus_line : map (λ d. told anyone (call 0 5 d 0 0)) (below 49) ++ told anyone (call 0 7 0 0 0) ∷ told anyone (call 0 3 0 0 0) ∷ []
-    ≡ map (λ d. printed 0 Wait Silent Absent (Number d) 0 0) (below 48) ++ general ∷ printed 0 Wait Silent Absent Absent 0 0 ∷ printed 0 Panic Silent Absent Absent 0 0 ∷ []
+    ≡ map (λ d. printed 0 Wait None None (Some d) 0 0) (below 48) ++ general ∷ printed 0 Wait None None None 0 0 ∷ printed 0 Panic None None None 0 0 ∷ []
 unfolding rule_book lone below
 every_nucleus_line = refl
 

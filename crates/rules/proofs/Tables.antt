@@ -1,6 +1,7 @@
 -- The rule that the tables obey holds of every start, a refused one too, and every event at any processor keeps it.
-use Rattle.std.specs.Prelude.{if◌then◌else◌}
-use mathlib.Core.Path.{◌≡◌, refl, ap, ◌∙◌, subst}
+use Rattle.std.proofs.lemmas.Option.{none-some}
+use Rattle.std.specs.Prelude.{if◌then◌else◌, Option, Some, None}
+use mathlib.Core.Path.{◌≡◌, refl, ap, ◌∙◌, subst, sym}
 use mathlib.Core.Logic.{◌≢◌}
 use mathlib.Core.Bool.{Bool, true, false, ◌||◌}
 use mathlib.Core.List.{List, [], ◌∷◌, map}
@@ -9,15 +10,17 @@ use native.Mathlib.Omega.{arith}
 use lib.Dec.{eqb, ltb}
 use lib.IntN.{negsuc}
 use lib.ListN.{length, length-set, get_or, replicate, length-replicate}
-use borrow.Author.Tests.{ltb-true, ltb-false, lt-ltb, le-ltb, eq-eqb, eqb-true, eqb-false}
+use borrow.Author.Tests.{ltb-true, ltb-false, lt-ltb, le-ltb, eq-eqb, eqb-false}
 use Rattle.rules.proofs.Lines.{count_le, many_fail}
 use Rattle.rules.proofs.Living.{process, living_sum, fresh_living}
 use Rattle.rules.specs.declared.Event.{Event}
 use Rattle.rules.specs.declared.Event.TheVariants.{Call}
 use Rattle.rules.specs.declared.Arrival.{Arrival}
 use Rattle.rules.specs.declared.Mode.TheVariants.{Kernel}
-use Rattle.rules.specs.Words.{any, sum, count, many, All}
-use Rattle.rules.specs.Numbers.{top, most_processors, value_too_large, ceilings_not_allowed, processors_not_allowed}
+use Rattle.rules.specs.Words.{any, sum, count, many, All, maybe}
+use Rattle.rules.specs.declared.StartRefusal.{StartRefusal}
+use Rattle.rules.specs.declared.StartRefusal.TheVariants.{ValueTooLarge, CeilingsNotAllowed, ProcessorsNotAllowed}
+use Rattle.rules.specs.Numbers.{top, most_processors}
 use Rattle.rules.proofs.Cases.{if_cases}
 use Rattle.rules.specs.Machine.{Process, Machine, seated_in, ready, on_processors, living, blank, processors, here, turn, idle_from, fresh}
 use Rattle.rules.specs.Tables.{Tables, Rests}
@@ -30,7 +33,7 @@ use Rattle.rules.proofs.Kin.{Kin, stays_kin, fresh_kin}
 use Rattle.rules.proofs.Descent.{Descent, stays_descent, moved_descent, fresh_descent}
 use Rattle.rules.proofs.Places.{stays_placed}
 use Rattle.rules.proofs.Lined.{stays_lined}
-use Rattle.rules.proofs.Status.{stays_scheduled}
+use Rattle.rules.proofs.Standing.{stays_scheduled}
 use Rattle.rules.proofs.Laws.{sized, blank_still, accounted, limited, within}
 use Rattle.rules.proofs.Arrivals.{arrives_in, no_such}
 use Rattle.rules.proofs.Turns.{taken, turn_cases, here_turned, seat_turned, same_taken, scheduled_taken, sound_taken, kin_taken, idle_taken, single_taken}
@@ -246,16 +249,16 @@ least_allowed slots zero some one = absurd (omega arith)
 least_allowed slots (suc n) some one = (omega arith, omega (arith, zeros_sum n))
 
 -- what an accepted start has passed: no value too large, and ceilings that are allowed
-pub start_passed : (slots number : ℕ) (values ceilings : List ℕ) → start_refusal slots number values ceilings ≡ 0 → ((i : ℕ) → get_or values i 0 ≤ top) × Allowed slots ceilings × (1 ≤ number)
+pub start_passed : (slots number : ℕ) (values ceilings : List ℕ) → start_refusal slots number values ceilings ≡ None → ((i : ℕ) → get_or values i 0 ≤ top) × Allowed slots ceilings × (1 ≤ number)
 unfolding start_refusal too_large not_allowed bad_number
 start_passed slots number values ceilings ok = go (any (ltb top) values) refl (ltb (get_or ceilings 0 0) 1) refl (ltb slots (sum (λ n. n) ceilings)) refl (eqb number 0) refl ok
   where
     go : (a : Bool) → any (ltb top) values ≡ a → (b : Bool) → ltb (get_or ceilings 0 0) 1 ≡ b → (c : Bool) → ltb slots (sum (λ n. n) ceilings) ≡ c → (d : Bool) → eqb number 0 ≡ d
-        → (if a then value_too_large else (if b || c then ceilings_not_allowed else (if d || ltb most_processors number then processors_not_allowed else 0))) ≡ 0 → ((i : ℕ) → get_or values i 0 ≤ top) × Allowed slots ceilings × (1 ≤ number)
-    go true p b q c r d z e = absurd (omega arith)
-    go false p true q c r d z e = absurd (omega arith)
-    go false p false q true r d z e = absurd (omega arith)
-    go false p false q false r true z e = absurd (omega arith)
+        → (if a then Some ValueTooLarge else (if b || c then Some CeilingsNotAllowed else (if d || ltb most_processors number then Some ProcessorsNotAllowed else None))) ≡ None → ((i : ℕ) → get_or values i 0 ≤ top) × Allowed slots ceilings × (1 ≤ number)
+    go true p b q c r d z e = absurd (none-some _ (sym e))
+    go false p true q c r d z e = absurd (none-some _ (sym e))
+    go false p false q true r d z e = absurd (none-some _ (sym e))
+    go false p false q false r true z e = absurd (none-some _ (sym e))
     go false p false q false r false z e =
         let n : number ≢ 0 = eqb-false number 0 z in
         (low_values values p, (omega (arith, ltb-false (get_or ceilings 0 0) 1 q), ltb-false slots (sum (λ n. n) ceilings) r), omega arith)
@@ -273,22 +276,22 @@ start_tables slots number now values ceilings some one =
     let k = length ceilings in
     let zeros : List ℕ = replicate n 0 in
     let low : Machine = fresh slots 0 0 zeros (least_ceilings k) in
-    tables_turned slots n k (started slots number values ceilings) 0 _ (go (eqb (start_refusal slots number values ceilings) 0) refl
+    tables_turned slots n k (started slots number values ceilings) 0 _ (go (start_refusal slots number values ceilings) refl
     (keeps slots n k 1 low (Call 0 Kernel (negsuc 1) 0 0 0)
     (subst (λ (i : ℕ). Tables slots i k 1 low) (length-replicate n 0)
     (subst (λ (j : ℕ). Tables slots (length zeros) j 1 low) (least_many k)
     (fresh_tables slots 0 0 zeros (least_ceilings k) (least_allowed slots k some one) (zeros_low n))))))
   where
-    go : (b : Bool) → eqb (start_refusal slots number values ceilings) 0 ≡ b
+    go : (o : Option StartRefusal) → start_refusal slots number values ceilings ≡ o
         → Tables slots (length values) (length ceilings) 1 (nothing_left slots (length values) (length ceilings))
-        → Tables slots (length values) (length ceilings) (if b then number else 1)
-        (if b then fresh slots (number - 1) now values ceilings else nothing_left slots (length values) (length ceilings))
-    go true e h =
-        let ok = start_passed slots number values ceilings (eqb-true (start_refusal slots number values ceilings) 0 e) in
+        → Tables slots (length values) (length ceilings) (maybe o number (λ r. 1))
+        (maybe o (fresh slots (number - 1) now values ceilings) (λ r. nothing_left slots (length values) (length ceilings)))
+    go None e h =
+        let ok = start_passed slots number values ceilings e in
         let as_many : suc (number - 1) ≡ number = omega (arith, ok.2) in
         subst (λ (c : ℕ). Tables slots (length values) (length ceilings) c (fresh slots (number - 1) now values ceilings)) as_many
         (fresh_tables slots (number - 1) now values ceilings ok.1 ok.0)
-    go false e h = h
+    go (Some r) e h = h
 
 -- and it is at rest
 pub start_rests : (slots number now : ℕ) (values ceilings : List ℕ) → 1 ≤ slots → 1 ≤ length ceilings
@@ -296,7 +299,7 @@ pub start_rests : (slots number now : ℕ) (values ceilings : List ℕ) → 1 �
 unfolding start nothing_left fresh
 start_rests slots number now values ceilings some one = record {
   tables = start_tables slots number now values ceilings some one;
-  nothing_here = go (eqb (start_refusal slots number values ceilings) 0);
+  nothing_here = go (start_refusal slots number values ceilings);
 }
   where
     low : Machine
@@ -305,6 +308,6 @@ start_rests slots number now values ceilings some one = record {
     seats : processors (step low (Call 0 Kernel (negsuc 1) 0 0 0)).after ≡ 1
     seats = (sized slots _ 1 _ low (Call 0 Kernel (negsuc 1) 0 0 0) refl (refl, refl, refl, refl)).2
 
-    go : (b : Bool) → here (turn 0 (if b then fresh slots (number - 1) now values ceilings else nothing_left slots (length values) (length ceilings))) ≡ blank
-    go true = here_turned 0 (fresh slots (number - 1) now values ceilings) (omega arith)
-    go false = here_turned 0 _ (omega (arith, seats)) ∙ blank_still 0 low (Call 0 Kernel (negsuc 1) 0 0 0) refl refl
+    go : (o : Option StartRefusal) → here (turn 0 (maybe o (fresh slots (number - 1) now values ceilings) (λ r. nothing_left slots (length values) (length ceilings)))) ≡ blank
+    go None = here_turned 0 (fresh slots (number - 1) now values ceilings) (omega arith)
+    go (Some r) = here_turned 0 _ (omega (arith, seats)) ∙ blank_still 0 low (Call 0 Kernel (negsuc 1) 0 0 0) refl refl

@@ -20,7 +20,7 @@ use Rattle.rules.specs.Answers.{Outcome, plain, doing}
 use Rattle.rules.specs.Tables.{Sound, with_id}
 use Rattle.rules.specs.Rules
 use Rattle.rules.specs.Rules.{step}
-use Rattle.rules.proofs.Cases.{if_cases}
+use Rattle.rules.proofs.Cases.{maybe_cases}
 use Rattle.rules.proofs.Sums.{sum_append, part_sum}
 use Rattle.rules.proofs.Lines.{count_le}
 use Rattle.rules.proofs.Living.{living_sum, same_dispatch, same_back, sum_killed, status_living}
@@ -269,9 +269,9 @@ module _ (high : Bool) (x n : ℕ) where
   pub waits_on : (m : Machine) (e : Event) → Sound m → Single m.running → Waiting high x n m → Fate high x n (step m e).answer (step m e).after
   unfolding step Rules.refused charge B
   waits_on m e s one w =
-      if_cases (λ (o : Outcome). Fate high x n o.answer o.after) (eqb (Rules.refusal m e) 0)
+      maybe_cases (λ (o : Outcome). Fate high x n o.answer o.after) (Rules.refusal m e)
       (λ _. Walk.perform B S (Fate high x n) fates sems e (charge (Rules.clock e) m) (charge_single (Rules.clock e) m one) (sound_charged (Rules.clock e) m s, w))
-      (λ _. inl (n, (omega arith, w)))
+      (λ r no. inl (n, (omega arith, w)))
 
   pub waits_turned : (k : ℕ) (m : Machine) → Waiting high x n m → Waiting high x n (turn k m)
   waits_turned k m w = turn_cases (Waiting high x n) k m w (λ l. w)
