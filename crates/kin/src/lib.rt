@@ -1,5 +1,5 @@
 // Who belongs to whom, by the rows alone: families by their parents, and customers by their ceilings. Rows are arrays
-// by slot: ids (0 is free), the parent's slot and one more (0 is none), customers.
+// by slot: ids (0 is free), the parent's slot where there is one, customers.
 #![tactic(auto)]
 
 ghost use Rattle.std.specs.Prelude.{◌≡◌, ◌<◌, length};
@@ -8,9 +8,15 @@ ghost use Rattle.kin.specs.Families.{Kin, kin, parent_at, Marks, may_name_at, at
 
 use lines::living_of;
 use rules::{CUSTOMERS, SLOTS};
+use std::array;
 
 // Whether the process in a slot has the id, or descends from who has it.
-fn descends<'a>(ids: &'a [u32; SLOTS], parents: &'a [u8; SLOTS], from: usize, id: u32) -> bool
+fn descends<'a>(
+    ids: &'a [u32; SLOTS],
+    parents: &'a [Option<u8>; SLOTS],
+    from: usize,
+    id: u32,
+) -> bool
     requires { (length ids.now ≡ base_slots) × (length parents.now ≡ base_slots) × (from < base_slots) × Kin parents.now ids.now }
     ensures { result ≡ kin parents.now ids.now id from }
 {
@@ -19,45 +25,37 @@ fn descends<'a>(ids: &'a [u32; SLOTS], parents: &'a [u8; SLOTS], from: usize, id
         if ids[s] == id {
             return true;
         }
-        let up = parents[s];
-        if up == 0 {
+        let Some(up) = parents[s] else {
             return false;
-        }
-        s = (up - 1) as usize;
+        };
+        s = up as usize;
     }
 }
 
-// The id of the parent of who is in a slot; 0 where there is none.
-pub fn parent_of<'a>(ids: &'a [u32; SLOTS], parents: &'a [u8; SLOTS], slot: usize) -> u32
+// The id of the parent of who is in a slot; 0 where there is none: kept a number, as "0 for id 1" is what is answered.
+pub fn parent_of<'a>(ids: &'a [u32; SLOTS], parents: &'a [Option<u8>; SLOTS], slot: usize) -> u32
     requires { (length ids.now ≡ base_slots) × (length parents.now ≡ base_slots) × (slot < base_slots) × Kin parents.now ids.now }
     ensures { result ≡ parent_at parents.now ids.now slot }
 {
-    let up = parents[slot];
-    if up == 0 {
+    let Some(up) = parents[slot] else {
         return 0;
-    }
-    let p = (up - 1) as usize;
+    };
+    let p = up as usize;
     ids[p]
 }
 
 // The slots of the family of who has the id.
-pub fn family<'a>(ids: &'a [u32; SLOTS], parents: &'a [u8; SLOTS], id: u32) -> [bool; SLOTS]
+pub fn family<'a>(ids: &'a [u32; SLOTS], parents: &'a [Option<u8>; SLOTS], id: u32) -> [bool; SLOTS]
     requires { (length ids.now ≡ base_slots) × (length parents.now ≡ base_slots) × Kin parents.now ids.now }
     ensures { Marks parents.now ids.now id result }
 {
-    let mut marks = [false; SLOTS];
-    let mut s = 0;
-    while s < SLOTS {
-        marks[s] = descends(ids, parents, s, id);
-        s += 1;
-    }
-    marks
+    array::from_fn(|s| descends(ids, parents, s, id))
 }
 
 // 02, (xi): "terminate may now name only the caller itself or its own descendants; customer 0 may still name anyone".
 pub fn may_name<'a>(
     ids: &'a [u32; SLOTS],
-    parents: &'a [u8; SLOTS],
+    parents: &'a [Option<u8>; SLOTS],
     customers: &'a [u8; SLOTS],
     caller: usize,
     target: usize,

@@ -1,6 +1,6 @@
 -- What a look tells, over tables alone: the one seat of a slot, where it is, and the mask of all.
 -- Assumes nothing.
-use Rattle.std.specs.Prelude.{if◌then◌else◌}
+use Rattle.std.specs.Prelude.{sum as total, if◌then◌else◌, Option, Some, None}
 use mathlib.Core.Path.{◌≡◌, refl, sym, ap, ap₂, ◌∙◌}
 use mathlib.Core.Bool.{Bool, true, false, true≢false}
 use mathlib.Core.List.{List, [], ◌∷◌, ◌++◌, map}
@@ -9,10 +9,10 @@ use native.Mathlib.Nat.{one-mul, zero-mul}
 use native.Mathlib.Omega.{arith}
 use native.Mathlib.Decide.{ℕ_discrete}
 use lib.Dec.{eqb, leb, ltb}
-use borrow.Author.Tests.{eqb-true, leb-true, leb-false, ltb-true, ltb-false, eq-eqb, ne_eqb}
+use borrow.Author.Tests.{leb-true, leb-false, ltb-true, ltb-false, ne_eqb}
 use lib.ListN.{length, take, get_or, replicate, length-take, take-append-drop, get_or-eq_default}
+use Rattle.std.proofs.lemmas.List.Sums.{sum_by-cons}
 use Rattle.rules.specs.declared.Line.TheVariants.{Device}
-use Rattle.rules.specs.declared.Part.TheVariants.{Absent, Number}
 use Rattle.rules.specs.Words.{first, those, any, sum, All}
 use Rattle.rules.specs.Numbers.{base_slots, most_processors}
 use Rattle.rules.proofs.Sums.{sum_over}
@@ -22,22 +22,19 @@ use Rattle.rules.specs.Tables.{InOwnLine, idle_time}
 use Rattle.rules.specs.Answers.{mask}
 use Rattle.rules.specs.Rules.{start, all_at, run, rule_book}
 use Rattle.rules.proofs.Examples.{call}
-use Rattle.lines.specs.Lines.{Line, entry, tally, is_zero, is_id, first_where, one, occ, mask_of_taken}
-use Rattle.lines.specs.declared.Found.{Found}
-use Rattle.lines.specs.declared.Found.TheVariants as found
-use Rattle.lines.proofs.Occ.{one_other, occ_append, sum_slots, tally_same}
-use Rattle.seats.specs.Seats.{table, held_slot, seat}
+use Rattle.lines.specs.Lines.{Line, entry, tally, is_zero, first_where, one, occ, mask_of_taken}
+use Rattle.lines.proofs.Occ.{one_other, occ_append, sum_slots, tally_same, tally_front}
+use Rattle.seats.specs.Seats.{table, held_slot, seat, sits_in, InSeats}
 use Rattle.seats.proofs.Tabled.{table_get, table_past}
-use Rattle.seats.proofs.Told.{tally_front, tally_stop}
-use Rattle.lines.proofs.Bridge.{those_map, any_map, none_is, one_is, any_those, any_none, found_passes}
+use Rattle.seats.proofs.Told.{tally_stop}
+use Rattle.lines.proofs.Bridge.{those_map, any_map, none_is, one_is, any_those, any_none}
 use Rattle.tables.specs.declared.Tables.{Tables}
 use Rattle.looks.specs.declared.Place.{Place}
 use Rattle.looks.specs.declared.Place.TheVariants.{Nowhere, Running, High, Low, Waiting}
-use Rattle.looks.specs.declared.Status.TheVariants.{Panicked}
-use Rattle.tables.specs.Codes.{decode, status_of}
+use Rattle.tables.specs.Codes.{decode}
 use Rattle.tables.specs.View.{row, waiter, occupant, away, seat_at, highs, lows, readies, waiters, seats, view, live, Shape}
 use Rattle.kin.specs.Families.{climb, parent_at}
-use Rattle.looks.specs.Looks.{seat_of, who_runs, sits, who_is_in, of_slot, parent_of, processor_of, line_at, place_at, row_at, in_order, highs_in_order, lows_in_order, waiting_in_order, standing}
+use Rattle.looks.specs.Looks.{seat_of, who_runs, sits, who_is_in, of_slot, parent_of, processor_of, line_at, place_at, row_at, in_order, highs_in_order, lows_in_order, waiting_in_order}
 use Rattle.tables.proofs.Seats as seated
 use Rattle.tables.proofs.Seats.{seats_living, occ_seats, occ_nobody, seats_slots, living_seat, pos_live, live_le}
 
@@ -53,11 +50,11 @@ of_taken x n = go (eqb x 0)
 pub beyond : (l : List ℕ) (k : ℕ) → length l ≡ k → (s : ℕ) → k ≤ s → get_or l s 0 ≡ 0
 beyond l k e s h = get_or-eq_default l 0 (omega arith)
 
--- ---- whether it runs on
-pub standing_panicked : (n : ℕ) → (n ≡ 0 → ⊥) → (n ≡ 1 → ⊥) → standing (status_of n) ≡ Panicked
-standing_panicked zero a b = absurd (a refl)
-standing_panicked (suc zero) a b = absurd (b refl)
-standing_panicked (suc (suc n)) a b = refl
+-- ---- the sum of an array's entries
+pub sum_tally : (l : List ℕ) → total l ≡ tally (entry l) (length l)
+unfolding tally
+sum_tally [] = refl
+sum_tally (x ∷ l) = sum_by-cons (λ (n : ℕ). n) x l ∙ ap (λ (n : ℕ). x + n) (sum_tally l) ∙ sym (tally_front (entry (x ∷ l)) (length l))
 
 -- ---- a slot in a line
 module _ (m : Tables) (s : ℕ) where
@@ -86,57 +83,60 @@ unfolding tally
 sum_table f zero g = refl
 sum_table f (suc n) g = omega (arith, sum_table f n (λ k. g (suc k)), tally_front (λ k. f (g k)) n)
 
--- how often a slot has a seat, by the seat's code
-held_head : (c s : ℕ) → occ s (held_slot c) ≡ (if eqb c (suc s) then 1 else 0)
-held_head zero s = occ_nobody s ∙ sym (rw (ne_eqb 0 (suc s) (λ (z : 0 ≡ suc s). let y : ⊥ = omega (arith, z) in y)) refl)
-held_head (suc r) s = occ_one r s ∙ go (ℕ_discrete r s)
-  where
-    go : Dec (r ≡ s) → one r s ≡ (if eqb (suc r) (suc s) then 1 else 0)
-    go (yes e) = rw (eq-eqb r s e, eq-eqb (suc r) (suc s) (ap suc e)) refl
-    go (no n) = rw (ne_eqb r s n, ne_eqb (suc r) (suc s) (λ (z : suc r ≡ suc s). n (omega (arith, z)))) refl
+-- how often a slot has a seat
+held_head : (c : Option ℕ) (s : ℕ) → occ s (held_slot c) ≡ (if sits_in s c then 1 else 0)
+held_head None s = occ_nobody s
+held_head (Some r) s = occ_one r s
 
--- who has no seat's code has no seat
-held_not : (cs : List ℕ) (s k : ℕ) → first_where (is_id (suc s)) k cs ≡ found.Nothing → occ s (away cs) ≡ 0
+-- who is found in no seat has none
+held_not : (cs : List (Option ℕ)) (s k : ℕ) → first_where (sits_in s) k cs ≡ None → occ s (away cs) ≡ 0
 unfolding first_where
 held_not [] s k e = occ_nobody s
-held_not (c ∷ cs) s k e = go (eqb c (suc s)) (held_head c s) e (held_not cs s (suc k))
+held_not (c ∷ cs) s k e = go (sits_in s c) (held_head c s) e (held_not cs s (suc k))
   where
-    go : (b : Bool) → occ s (held_slot c) ≡ (if b then 1 else 0) → (if b then found.At k else first_where (is_id (suc s)) (suc k) cs) ≡ found.Nothing → (first_where (is_id (suc s)) (suc k) cs ≡ found.Nothing → occ s (away cs) ≡ 0) → occ s (held_slot c ++ away cs) ≡ 0
+    go : (b : Bool) → occ s (held_slot c) ≡ (if b then 1 else 0) → (if b then Some k else first_where (sits_in s) (suc k) cs) ≡ None → (first_where (sits_in s) (suc k) cs ≡ None → occ s (away cs) ≡ 0) → occ s (held_slot c ++ away cs) ≡ 0
     go true h e ih = let z : ◌≡◌ {A = ℕ} 0 1 = cc in absurd (omega arith)
     go false h e ih = omega (arith, occ_append s (held_slot c) (away cs), h, ih e)
 
--- ---- the processor that a slot runs on, by the codes of the seats
-module _ (m : Tables) (s : ℕ) where
-  as_list : Found → List ℕ
-  as_list (found.At k) = k ∷ []
-  as_list found.Nothing = []
+-- what is no slot has no seat
+no_such_seat : (cs : List (Option ℕ)) (s k : ℕ) → InSeats cs → base_slots ≤ s → first_where (sits_in s) k cs ≡ None
+unfolding first_where
+no_such_seat [] s k low h = refl
+no_such_seat (None ∷ cs) s k low h = no_such_seat cs s (suc k) (λ i. low (suc i)) h
+no_such_seat (Some r ∷ cs) s k low h = rw (ne_eqb r s (λ (z : r ≡ s). let y : ⊥ = omega (arith, low 0, z, h) in y)) (no_such_seat cs s (suc k) (λ i. low (suc i)) h)
 
-  in_seat : (c : ℕ) → any (sits s) (map (row m) (held_slot c)) ≡ eqb c (suc s)
-  in_seat c = go (eqb c (suc s)) (held_head c s)
+-- ---- the processor that a slot runs on, by the seats
+module _ (m : Tables) (s : ℕ) where
+  as_list : Option ℕ → List ℕ
+  as_list (Some k) = k ∷ []
+  as_list None = []
+
+  in_seat : (c : Option ℕ) → any (sits s) (map (row m) (held_slot c)) ≡ sits_in s c
+  in_seat c = go (sits_in s c) (held_head c s)
     where
       go : (b : Bool) → occ s (held_slot c) ≡ (if b then 1 else 0) → any (sits s) (map (row m) (held_slot c)) ≡ b
       go true e = stands m s (held_slot c) e
       go false e = absent m s (held_slot c) e
 
-  nobody_on : (n k : ℕ) (l i : ℕ → ℕ) → processor_of s k (table n (λ j. seat (row m) 0 (l j) (i j))) ≡ []
+  nobody_on : (n k : ℕ) (l i : ℕ → ℕ) → processor_of s k (table n (λ j. seat (row m) None (l j) (i j))) ≡ []
   unfolding processor_of
   nobody_on zero k l i = refl
   nobody_on (suc n) k l i = nobody_on n (suc k) (λ j. l (suc j)) (λ j. i (suc j))
 
-  nowhere : (cs : List ℕ) (k : ℕ) → ((j : ℕ) → get_or cs j 0 ≡ 0) → first_where (is_id (suc s)) k cs ≡ found.Nothing
+  nowhere : (cs : List (Option ℕ)) (k : ℕ) → ((j : ℕ) → get_or cs j None ≡ None) → first_where (sits_in s) k cs ≡ None
   unfolding first_where
   nowhere [] k none = refl
-  nowhere (c ∷ cs) k none = rw (ne_eqb c (suc s) (λ (z : c ≡ suc s). let y : ⊥ = omega (arith, z, none 0) in y)) (nowhere cs (suc k) (λ j. none (suc j)))
+  nowhere (c ∷ cs) k none = rw (none 0) (nowhere cs (suc k) (λ j. none (suc j)))
 
-  processor_told : (cs : List ℕ) (n k : ℕ) (l i : ℕ → ℕ) → ((j : ℕ) → n ≤ j → get_or cs j 0 ≡ 0)
-      → processor_of s k (table n (λ j. seat (row m) (get_or cs j 0) (l j) (i j))) ≡ as_list (first_where (is_id (suc s)) k cs)
+  processor_told : (cs : List (Option ℕ)) (n k : ℕ) (l i : ℕ → ℕ) → ((j : ℕ) → n ≤ j → get_or cs j None ≡ None)
+      → processor_of s k (table n (λ j. seat (row m) (get_or cs j None) (l j) (i j))) ≡ as_list (first_where (sits_in s) k cs)
   unfolding processor_of first_where as_list
   processor_told [] n k l i none = nobody_on n k l i
   processor_told (c ∷ cs) zero k l i none = sym (ap as_list (nowhere (c ∷ cs) k (λ j. none j (omega arith))))
-  processor_told (c ∷ cs) (suc n) k l i none = go (eqb c (suc s)) (in_seat c) (processor_told cs n (suc k) (λ j. l (suc j)) (λ j. i (suc j)) (λ j h. none (suc j) (omega (arith, h))))
+  processor_told (c ∷ cs) (suc n) k l i none = go (sits_in s c) (in_seat c) (processor_told cs n (suc k) (λ j. l (suc j)) (λ j. i (suc j)) (λ j h. none (suc j) (omega (arith, h))))
     where
-      go : (b : Bool) → any (sits s) (map (row m) (held_slot c)) ≡ b → processor_of s (suc k) (table n (λ j. seat (row m) (get_or cs j 0) (l (suc j)) (i (suc j)))) ≡ as_list (first_where (is_id (suc s)) (suc k) cs)
-          → (if any (sits s) (map (row m) (held_slot c)) then k ∷ [] else processor_of s (suc k) (table n (λ j. seat (row m) (get_or cs j 0) (l (suc j)) (i (suc j))))) ≡ as_list (if b then found.At k else first_where (is_id (suc s)) (suc k) cs)
+      go : (b : Bool) → any (sits s) (map (row m) (held_slot c)) ≡ b → processor_of s (suc k) (table n (λ j. seat (row m) (get_or cs j None) (l (suc j)) (i (suc j)))) ≡ as_list (first_where (sits_in s) (suc k) cs)
+          → (if any (sits s) (map (row m) (held_slot c)) then k ∷ [] else processor_of s (suc k) (table n (λ j. seat (row m) (get_or cs j None) (l (suc j)) (i (suc j))))) ≡ as_list (if b then Some k else first_where (sits_in s) (suc k) cs)
       go true e ih = rw e
       go false e ih = rw e ih
 
@@ -151,11 +151,11 @@ module _ (m : Tables) (g : Shape m) where
           let past = ltb-false k m.processors e in
           table_past m.processors k (seat_at m) blank past ∙ sym (rw (g.no_runner k past, g.no_last k past, g.no_idle k past) refl)
 
-  pub runs_slot : (k s : ℕ) → get_or m.runners k 0 ≡ suc s → who_runs k (view m) ≡ Number s
-  runs_slot k s e = ap (λ (x : book.Seat). first x.running Absent (λ p. Number p.slot)) (seat_told k) ∙ ap (λ c. first (map (row m) (held_slot c)) Absent (λ p. Number p.slot)) e
+  pub runs_slot : (k s : ℕ) → get_or m.runners k None ≡ Some s → who_runs k (view m) ≡ Some s
+  runs_slot k s e = ap (λ (x : book.Seat). first x.running None (λ p. Some p.slot)) (seat_told k) ∙ ap (λ c. first (map (row m) (held_slot c)) None (λ p. Some p.slot)) e
 
-  pub runs_absent : (k : ℕ) → get_or m.runners k 0 ≡ 0 → who_runs k (view m) ≡ Absent
-  runs_absent k e = ap (λ (x : book.Seat). first x.running Absent (λ p. Number p.slot)) (seat_told k) ∙ ap (λ c. first (map (row m) (held_slot c)) Absent (λ p. Number p.slot)) e
+  pub runs_absent : (k : ℕ) → get_or m.runners k None ≡ None → who_runs k (view m) ≡ None
+  runs_absent k e = ap (λ (x : book.Seat). first x.running None (λ p. Some p.slot)) (seat_told k) ∙ ap (λ c. first (map (row m) (held_slot c)) None (λ p. Some p.slot)) e
 
   pub last_told : (k : ℕ) → (seat_of k (view m)).last ≡ get_or m.lasts k 0
   last_told k = ap (λ (x : book.Seat). x.last) (seat_told k)
@@ -224,10 +224,10 @@ module _ (m : Tables) (g : Shape m) where
 
   -- ---- the place
   module _ (s : ℕ) where
-    on_processor : processor_of s 0 (view m).elsewhere ≡ as_list m s (first_where (is_id (suc s)) 0 m.runners)
+    on_processor : processor_of s 0 (view m).elsewhere ≡ as_list m s (first_where (sits_in s) 0 m.runners)
     on_processor = processor_told m s m.runners m.processors 0 (λ k. get_or m.lasts k 0) (λ k. get_or m.idles k 0) g.no_runner
 
-    pub place_running : (k : ℕ) → first_where (is_id (suc s)) 0 m.runners ≡ found.At k → place_at s (view m) ≡ Running k
+    pub place_running : (k : ℕ) → first_where (sits_in s) 0 m.runners ≡ Some k → place_at s (view m) ≡ Running k
     unfolding place_at as_list
     place_running k e = ap (λ (l : List ℕ). first l (line_at s (view m)) Running) (on_processor ∙ ap (as_list m s) e)
 
@@ -238,7 +238,7 @@ module _ (m : Tables) (g : Shape m) where
     in_lines = occ_append s (highs m) (lows m)
 
     -- it runs on no processor
-    module _ (idle : first_where (is_id (suc s)) 0 m.runners ≡ found.Nothing) where
+    module _ (idle : first_where (sits_in s) 0 m.runners ≡ None) where
       parts : (h l : Bool) (w : List ℕ) → any (sits s) (view m).high ≡ h → any (sits s) (view m).low ≡ l → those (λ x. eqb x s) (waiters m) ≡ w → place_at s (view m) ≡ by_parts h l w
       unfolding place_at line_at by_parts as_list
       parts h l w a b d =
@@ -295,12 +295,8 @@ module _ (m : Tables) (g : Shape m) where
     pub place_out : base_slots ≤ s → place_at s (view m) ≡ Nowhere
     place_out h = place_none unseated (beyond m.ids base_slots g.ids_long s h)
       where
-        unseated : first_where (is_id (suc s)) 0 m.runners ≡ found.Nothing
-        unseated = go (first_where (is_id (suc s)) 0 m.runners) refl
-          where
-            go : (f : Found) → first_where (is_id (suc s)) 0 m.runners ≡ f → f ≡ found.Nothing
-            go found.Nothing e = refl
-            go (found.At k) e = absurd (omega (arith, h, g.in_seats k, eqb-true (get_or m.runners k 0) (suc s) (found_passes (is_id (suc s)) m.runners k e)))
+        unseated : first_where (sits_in s) 0 m.runners ≡ None
+        unseated = no_such_seat m.runners s 0 g.in_seats h
 
   -- ---- the whole row
   pub row_out : (s : ℕ) → base_slots ≤ s → row_at s (view m) ≡ record { id = 0; parent = 0; customer = 0; priority = 0; handle = 0; time = 0; place = Nowhere }
@@ -371,14 +367,14 @@ line_whole q n h =
     sym (take-append-drop n q) ∙ ap (λ (l : List ℕ). take n q ++ l) (h.blank ∙ ap (λ k. replicate (base_slots - k) 0) (sym long)) in
     λ i. record { slots = all i; count = sym long i }
 
-pub highs_told : (m : Tables) → Shape m → record { slots = m.high; count = m.nhigh } ≡ highs_in_order (view m)
-highs_told m g = line_whole m.high m.nhigh g.high_line ∙ ap in_order (sym (slots_back (λ (p : Process). p.slot) (row m) (λ s. refl) (highs m)))
+pub highs_told : (m : Tables) → Shape m → m.high ≡ highs_in_order (view m)
+highs_told m g = line_whole m.high.slots m.high.count g.high_line ∙ ap in_order (sym (slots_back (λ (p : Process). p.slot) (row m) (λ s. refl) (highs m)))
 
-pub lows_told : (m : Tables) → Shape m → record { slots = m.low; count = m.nlow } ≡ lows_in_order (view m)
-lows_told m g = line_whole m.low m.nlow g.low_line ∙ ap in_order (sym (slots_back (λ (p : Process). p.slot) (row m) (λ s. refl) (lows m)))
+pub lows_told : (m : Tables) → Shape m → m.low ≡ lows_in_order (view m)
+lows_told m g = line_whole m.low.slots m.low.count g.low_line ∙ ap in_order (sym (slots_back (λ (p : Process). p.slot) (row m) (λ s. refl) (lows m)))
 
-pub waiting_told : (m : Tables) → Shape m → record { slots = m.waits; count = m.nwaits } ≡ waiting_in_order (view m)
-waiting_told m g = line_whole m.waits m.nwaits g.waits_line ∙ ap in_order (sym (slots_back (λ (w : Waiter). w.process.slot) (waiter m) (λ s. refl) (waiters m)))
+pub waiting_told : (m : Tables) → Shape m → m.waits ≡ waiting_in_order (view m)
+waiting_told m g = line_whole m.waits.slots m.waits.count g.waits_line ∙ ap in_order (sym (slots_back (λ (w : Waiter). w.process.slot) (waiter m) (λ s. refl) (waiters m)))
 
 -- ---- one result: a promise that is an equation for the result has no other
 pub one_result {ℓ} : {A : Type ℓ} (x r s : A) → r ≡ x → s ≡ x → r ≡ s

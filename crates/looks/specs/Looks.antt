@@ -1,7 +1,5 @@
 -- What a host sees of a machine: each thing said of the rule book's machine, for every slot and every number.
-use Rattle.std.specs.Prelude.{Bool, List, [], ◌∷◌, ◌++◌, map, ℕ, suc, ◌-◌, eqb, length, get_or, replicate, if◌then◌else◌}
-use Rattle.rules.specs.declared.Part.{Part}
-use Rattle.rules.specs.declared.Part.TheVariants.{Absent, Number}
+use Rattle.std.specs.Prelude.{Bool, List, [], ◌∷◌, ◌++◌, map, ℕ, suc, ◌-◌, eqb, length, get_or, replicate, if◌then◌else◌, Option, Some, None}
 use Rattle.rules.specs.Words.{first, those, any}
 use Rattle.rules.specs.Numbers.{base_slots}
 use Rattle.rules.specs.Tables.{slots_of, idle_time}
@@ -9,11 +7,9 @@ use Rattle.rules.specs.Machine as book
 use Rattle.rules.specs.Machine.{Process, living, blank}
 use Rattle.looks.specs.declared.Place.{Place}
 use Rattle.looks.specs.declared.Place.TheVariants.{Nowhere, Running, High, Low, Waiting}
-use Rattle.looks.specs.declared.Status.{Status}
-use Rattle.looks.specs.declared.Status.TheVariants.{On, Halted, Panicked}
 use Rattle.looks.specs.declared.Totals.{Totals}
 use Rattle.looks.specs.declared.Row.{Row}
-use Rattle.looks.specs.declared.Order.{Order}
+use Rattle.lines.specs.declared.queue.Queue.{Queue}
 
 -- ── Who ──
 
@@ -22,8 +18,8 @@ abbrev pub seat_of : ℕ → book.Machine → book.Seat
 seat_of k m = get_or m.elsewhere k blank
 
 -- the slot of whoever runs on a processor, or absent
-abbrev pub who_runs : ℕ → book.Machine → Part
-who_runs k m = first (seat_of k m).running Absent λ p. Number p.slot
+abbrev pub who_runs : ℕ → book.Machine → Option ℕ
+who_runs k m = first (seat_of k m).running None λ p. Some p.slot
 
 -- the process is in the slot
 abbrev pub sits : ℕ → Process → Bool
@@ -72,17 +68,17 @@ row_at s m = record {
 }
 
 -- slots in order, and how many; the places behind are zero
-abbrev pub in_order : List ℕ → Order
+abbrev pub in_order : List ℕ → Queue
 in_order l = record { slots = l ++ replicate (base_slots - length l) 0; count = length l }
 
 -- the two ready lines, first come first; all who wait, in the order in which they came
-abbrev pub highs_in_order : book.Machine → Order
+abbrev pub highs_in_order : book.Machine → Queue
 highs_in_order m = in_order (slots_of m.high)
 
-abbrev pub lows_in_order : book.Machine → Order
+abbrev pub lows_in_order : book.Machine → Queue
 lows_in_order m = in_order (slots_of m.low)
 
-abbrev pub waiting_in_order : book.Machine → Order
+abbrev pub waiting_in_order : book.Machine → Queue
 waiting_in_order m = in_order (map (λ w. w.process.slot) m.waiting)
 
 -- ── The machine ──
@@ -90,9 +86,3 @@ waiting_in_order m = in_order (map (λ w. w.process.slot) m.waiting)
 -- the sum of the accepted gaps, idle time of all processors and ended time
 abbrev pub sums : book.Machine → Totals
 sums m = record { gaps = m.total; idle = idle_time m; ended = m.ended }
-
--- whether it runs on, "has halted or panicked"
-abbrev pub standing : book.Status → Status
-standing book.On = On
-standing book.Halted = Halted
-standing book.Panicked = Panicked

@@ -1,24 +1,27 @@
 // What a host sees of a machine's tables. Nothing here changes them: tables are a value, and a look takes a copy.
 // Each promise is one equation for the result, for every argument: there is one result and no other. Slots and
 // customers are bytes, as in answers. Whether somebody is in a slot is told by the id (0 is nobody's) and by the place;
-// the other numbers are 0 where nobody is there.
+// the other numbers are 0 where nobody is there: kept so, and no Option, as docs/PROMISES.md promises these zeros.
 #![tactic(auto)]
 
-ghost use Rattle.std.specs.Prelude.{◌≡◌, length, ◌+◌, ◌<◌, ◌≤◌};
-ghost use Rattle.lines.specs.Lines.{entry, is_id, first_where, tally};
-ghost use Rattle.lines.specs.declared.Found.TheVariants.{Nothing};
+ghost use Rattle.std.specs.Prelude.{◌≡◌, length, ◌+◌, ◌<◌, ◌≤◌, None};
+ghost use Rattle.lines.specs.Lines.{entry, first_where, tally};
+ghost use Rattle.seats.specs.Seats.{sits_in};
 ghost use Rattle.rules.specs.Numbers.{base_slots, most_processors, time_limit};
 ghost use Rattle.rules.specs.Rules.{value};
 ghost use Rattle.rules.specs.Answers.{mask};
 ghost use Rattle.rules.specs.Machine.{living, living_of, ceiling};
 ghost use Rattle.tables.specs.Codes.{decode};
 ghost use Rattle.tables.specs.View.{view, Good};
-ghost use Rattle.looks.specs.Looks.{seat_of, who_runs, place_at, row_at, highs_in_order, lows_in_order, waiting_in_order, sums, standing};
+ghost use Rattle.looks.specs.Looks.{seat_of, who_runs, place_at, row_at, highs_in_order, lows_in_order, waiting_in_order, sums};
 
 use choices::is_high;
 use kin::parent_of;
-use lines::{Found, living_of};
-use rules::{CUSTOMERS, Line, PROCESSORS, Part, SEMAPHORES, SLOTS};
+use lines::living_of;
+
+// Slots in the order in which they stand, and how many they are; the places behind are zero.
+pub use lines::Queue as Order;
+use rules::{Line, PROCESSORS, SLOTS, Status};
 use tables::{CLOCK, FIRST_DEVICE, LAST_SEMAPHORE, Tables};
 
 // Where a process is: "nobody there", running on a processor, in the high or the low ready line, or in a waiting line.
@@ -43,21 +46,6 @@ pub struct Row {
     pub handle: u32,
     pub time: u64,
     pub place: Place,
-}
-
-// Slots in the order in which they stand, and how many they are; the places behind are zero.
-#[derive(Clone, Copy)]
-pub struct Order {
-    pub slots: [u8; SLOTS],
-    pub count: usize,
-}
-
-// Whether a machine takes events: one that "has halted or panicked" refuses them all.
-#[derive(Clone, Copy)]
-pub enum Status {
-    On,
-    Halted,
-    Panicked,
 }
 
 // The sum of the accepted gaps, and the parts of it that no living process has.
@@ -85,19 +73,12 @@ fn line_of(code: u8) -> Line
 }
 
 // The slot of whoever runs on a processor, or absent.
-pub fn running(t: Tables, processor: u8) -> Part
+pub fn running(t: Tables, processor: u8) -> Option<u8>
     requires { Good t }
     ensures { result ≡ who_runs processor (view t) }
 {
-    let k = processor as usize;
-    if PROCESSORS <= k {
-        return Part::Absent;
-    }
-    let code = t.runners[k];
-    if code == 0 {
-        return Part::Absent;
-    }
-    Part::Number(code - 1)
+    let seat = t.runners.get(processor as usize)?;
+    *seat
 }
 
 // A processor's last clock reading; 0 where there is no such processor.
@@ -105,11 +86,7 @@ pub fn last(t: Tables, processor: u8) -> u32
     requires { Good t }
     ensures { result ≡ (seat_of processor (view t)).last }
 {
-    let k = processor as usize;
-    if PROCESSORS <= k {
-        return 0;
-    }
-    t.lasts[k]
+    t.lasts.get(processor as usize).copied().unwrap_or(0)
 }
 
 // A processor's idle time; 0 where there is no such processor.
@@ -117,26 +94,15 @@ pub fn idle(t: Tables, processor: u8) -> u64
     requires { Good t }
     ensures { result ≡ (seat_of processor (view t)).idle }
 {
-    let k = processor as usize;
-    if PROCESSORS <= k {
-        return 0;
-    }
-    t.idles[k]
+    t.idles.get(processor as usize).copied().unwrap_or(0)
 }
 
-// The processor that whoever has this code runs on.
-fn runs_on(runners: &[u8; PROCESSORS], code: u8) -> Found
+// The processor that whoever is in a slot runs on.
+fn runs_on(runners: &[Option<u8>; PROCESSORS], slot: u8) -> Option<usize>
     requires { length runners.now ≡ most_processors }
-    ensures { result ≡ first_where (is_id code) 0 runners.now }
+    ensures { result ≡ first_where (sits_in slot) 0 runners.now }
 {
-    let mut k = 0;
-    while k < PROCESSORS {
-        if runners[k] == code {
-            return Found::At(k);
-        }
-        k += 1;
-    }
-    Found::Nothing
+    runners.iter().position(|&seat| seat == Some(slot))
 }
 
 // Idle time of all processors.
@@ -144,13 +110,7 @@ fn idle_of(idles: &[u64; PROCESSORS]) -> u64
     requires { (length idles.now ≡ most_processors) × (tally (entry idles.now) most_processors ≤ time_limit) }
     ensures { result ≡ tally (entry idles.now) most_processors }
 {
-    let mut sum: u64 = 0;
-    let mut k = 0;
-    while k < PROCESSORS {
-        sum += idles[k];
-        k += 1;
-    }
-    sum
+    idles.iter().sum()
 }
 
 // The mask of the living, "bit n for slot n".
@@ -163,7 +123,7 @@ pub fn alive(t: Tables) -> u64
 
 // Where the process in a slot is, which runs on no processor.
 fn line_in(t: Tables, slot: usize) -> Place
-    requires { Good t × (slot < base_slots) × (first_where (is_id (slot + 1)) 0 t.runners ≡ Nothing) }
+    requires { Good t × (slot < base_slots) × (first_where (sits_in slot) 0 t.runners ≡ None) }
     ensures { result ≡ place_at slot (view t) }
 {
     let code = t.lines[slot];
@@ -176,8 +136,7 @@ fn line_in(t: Tables, slot: usize) -> Place
         }
         return Place::Low;
     }
-    let l = line_of(code);
-    Place::Waiting(l)
+    Place::Waiting(line_of(code))
 }
 
 // Where the process in a slot is: each of the living is in one place.
@@ -185,10 +144,10 @@ fn place_of(t: Tables, slot: usize) -> Place
     requires { Good t × (slot < base_slots) }
     ensures { result ≡ place_at slot (view t) }
 {
-    let Found::At(k) = runs_on(&t.runners, slot as u8 + 1) else {
-        return line_in(t, slot);
-    };
-    Place::Running(k as u8)
+    match runs_on(&t.runners, slot as u8) {
+        Some(k) => Place::Running(k as u8),
+        None => line_in(t, slot),
+    }
 }
 
 // The whole row of the process in a slot.
@@ -208,21 +167,14 @@ pub fn row_in(t: Tables, slot: u8) -> Row
             place: Place::Nowhere,
         };
     }
-    let parent = parent_of(&t.ids, &t.parents, s);
-    let place = place_of(t, s);
-    let id = t.ids[s];
-    let customer = t.customers[s];
-    let priority = t.priorities[s];
-    let handle = t.handles[s];
-    let time = t.times[s];
     Row {
-        id: id,
-        parent: parent,
-        customer: customer,
-        priority: priority,
-        handle: handle,
-        time: time,
-        place: place,
+        id: t.ids[s],
+        parent: parent_of(&t.ids, &t.parents, s),
+        customer: t.customers[s],
+        priority: t.priorities[s],
+        handle: t.handles[s],
+        time: t.times[s],
+        place: place_of(t, s),
     }
 }
 
@@ -231,11 +183,7 @@ pub fn high(t: Tables) -> Order
     requires { Good t }
     ensures { result ≡ highs_in_order (view t) }
 {
-    let slots = t.high;
-    Order {
-        slots: slots,
-        count: t.nhigh,
-    }
+    t.high
 }
 
 // The low ready line, first come first.
@@ -243,11 +191,7 @@ pub fn low(t: Tables) -> Order
     requires { Good t }
     ensures { result ≡ lows_in_order (view t) }
 {
-    let slots = t.low;
-    Order {
-        slots: slots,
-        count: t.nlow,
-    }
+    t.low
 }
 
 // All who wait, in the order in which they came; a row tells the line of each.
@@ -255,11 +199,7 @@ pub fn waiting(t: Tables) -> Order
     requires { Good t }
     ensures { result ≡ waiting_in_order (view t) }
 {
-    let slots = t.waits;
-    Order {
-        slots: slots,
-        count: t.nwaits,
-    }
+    t.waits
 }
 
 // A semaphore's value; 0 where there is no such semaphore.
@@ -267,11 +207,7 @@ pub fn semaphore(t: Tables, number: u8) -> u32
     requires { Good t }
     ensures { result ≡ value number (view t) }
 {
-    let k = number as usize;
-    if SEMAPHORES <= k {
-        return 0;
-    }
-    t.sems[k]
+    t.sems.get(number as usize).copied().unwrap_or(0)
 }
 
 // A customer's ceiling; 0 where there is no such customer.
@@ -279,11 +215,7 @@ pub fn ceiling(t: Tables, customer: u8) -> u16
     requires { Good t }
     ensures { result ≡ ceiling customer (view t) }
 {
-    let k = customer as usize;
-    if CUSTOMERS <= k {
-        return 0;
-    }
-    t.ceilings[k]
+    t.ceilings.get(customer as usize).copied().unwrap_or(0)
 }
 
 // A customer's living, running, ready and waiting ones all counted.
@@ -299,10 +231,9 @@ pub fn totals_of(t: Tables) -> Totals
     requires { Good t }
     ensures { result ≡ sums (view t) }
 {
-    let idle = idle_of(&t.idles);
     Totals {
         gaps: t.total,
-        idle: idle,
+        idle: idle_of(&t.idles),
         ended: t.ended,
     }
 }
@@ -310,12 +241,7 @@ pub fn totals_of(t: Tables) -> Totals
 // Whether the machine runs on, "has halted or panicked".
 pub fn status_of(t: Tables) -> Status
     requires { Good t }
-    ensures { result ≡ standing (view t).status }
+    ensures { result ≡ (view t).status }
 {
-    let code = t.status;
-    match code {
-        0 => Status::On,
-        1 => Status::Halted,
-        _ => Status::Panicked,
-    }
+    t.status
 }

@@ -1,24 +1,32 @@
 -- The machines that are made from nothing, a fresh one and the one beside a refused start, obey the rule.
 -- Assumes nothing.
-use Rattle.std.proofs.Common.{◌≡◌, ℕ, zero, suc, ◌+◌, ◌-◌, ◌<◌, ◌≤◌, Bool, true, false, ltb, ◌≢◌, List, [], ◌∷◌, length, get_or, set, replicate, sym, refl, ap, ◌∙◌, ap₂, arith, ltb-false, ltb-true, le-ltb, lt-ltb, if◌then◌else◌}
+use Rattle.std.specs.Prelude.{◌++◌, Option, None}
+use Rattle.std.proofs.Common.{◌≡◌, ℕ, zero, suc, ◌-◌, ◌<◌, ◌≤◌, Bool, true, false, ltb, List, [], ◌∷◌, length, get_or, replicate, sym, subst, refl, ap, ◌∙◌, ap₂, arith, ltb-false, ltb-true, le-ltb, lt-ltb, if◌then◌else◌}
 use Rattle.rules.specs.Numbers.{base_slots, base_sems, base_customers, most_processors}
+use borrow.Rule.Slice.PartMut.{post_of}
 use Rattle.rules.specs.Machine as book
-use Rattle.rules.specs.Machine.{Seat, On, origin, blank, idle_from, fresh}
+use Rattle.rules.specs.declared.Status.TheVariants.{On}
+use Rattle.rules.specs.Machine.{Seat, origin, blank, idle_from, fresh}
 use Rattle.rules.specs.Rules.{rule_book}
 use Rattle.tables.specs.declared.Tables.{Tables}
 use Rattle.tables.specs.View.{readings_of, seat_at, view, Shape}
 use Rattle.kin.specs.Families.{climb}
-use Rattle.seats.specs.Seats.{table}
-use Rattle.seats.proofs.Tabled.{table_get, table_past, table_set}
+use Rattle.seats.specs.Seats.{table, IsSeat}
+use Rattle.seats.proofs.Tabled.{table_get, table_past}
 use Rattle.tables.proofs.Trials.{Benched, tested, trial}
 
 abbrev pub zeros : ℕ → List ℕ
 zeros n = replicate n 0
 
 abbrev pub begun : ℕ → List ℕ → List ℕ → ℕ → Tables
-begun now values ceilings n = record { ids = 1 ∷ zeros (base_slots - 1); taken = 1; parents = zeros base_slots; customers = zeros base_slots; priorities = zeros base_slots; handles = zeros base_slots; times = zeros base_slots; lines = zeros base_slots; high = zeros base_slots; nhigh = 0; low = zeros base_slots; nlow = 0; four = 0; waits = zeros base_slots; nwaits = 0; running = 0; sems = values; ceilings = ceilings; next = 2; status = 0; last = now; total = 0; idle = 0; ended = 0; runners = zeros most_processors; lasts = readings_of now n; idles = zeros most_processors; processors = n }
+begun now values ceilings n = record { ids = 1 ∷ zeros (base_slots - 1); taken = 1; parents = replicate base_slots None; customers = zeros base_slots; priorities = zeros base_slots; handles = zeros base_slots; times = zeros base_slots; lines = zeros base_slots; high = record { slots = zeros base_slots; count = 0 }; low = record { slots = zeros base_slots; count = 0 }; four = 0; waits = record { slots = zeros base_slots; count = 0 }; running = 0; sems = values; ceilings = ceilings; next = 2; status = On; last = now; total = 0; idle = 0; ended = 0; runners = replicate most_processors None; lasts = readings_of now n; idles = zeros most_processors; processors = n }
 
 -- ---- the seats
+pub none_at : (n k : ℕ) → get_or (replicate {A = Option ℕ} n None) k None ≡ None
+none_at zero k = refl
+none_at (suc n) zero = refl
+none_at (suc n) (suc k) = none_at n k
+
 pub zero_at : (n k : ℕ) → get_or (zeros n) k 0 ≡ 0
 zero_at zero k = refl
 zero_at (suc n) zero = refl
@@ -45,24 +53,19 @@ reading_past now n (suc k) some h = go (ltb k 7) refl
     go true e = table_get 7 k (reading now n) 0 (ltb-true k 7 e) ∙ rw (le-ltb (suc k) n h)
     go false e = table_past 7 k (reading now n) 0 (ltb-false k 7 e)
 
--- how the readings are written: none yet; one more
-pub readings_none : (now : ℕ) → zeros most_processors ≡ readings_of now 1
+-- how the readings are written: those of the processors but the first that are there, at once
+pub readings_filled : (now n : ℕ) → 1 ≤ n → n ≤ most_processors → 0 ∷ (replicate (n - 1) now ++ post_of {X = ℕ} 1 (n - 1) (zeros most_processors)) ≡ readings_of now n
 unfolding readings_of
-readings_none now = refl
-
-pub readings_more : (now k : ℕ) → 1 ≤ k → k < most_processors → set (readings_of now k) k now ≡ readings_of now (k + 1)
-unfolding readings_of
-readings_more now zero some few = absurd (omega (arith, some))
-readings_more now (suc j) some few =
-    let own : reading now (suc j + 1) j ≡ now = rw (lt-ltb (suc j) (suc j + 1) (omega arith)) in
-    ap (λ (xs : List ℕ). 0 ∷ xs) (sym (table_set 7 j (reading now (suc j)) (reading now (suc j + 1)) (omega (arith, few)) other ∙ ap (set (table 7 (reading now (suc j))) j) own))
-  where
-    other : (i : ℕ) → i ≢ j → reading now (suc j + 1) i ≡ reading now (suc j) i
-    other i z = go (ltb (suc i) (suc j)) refl
-      where
-        go : (b : Bool) → ltb (suc i) (suc j) ≡ b → reading now (suc j + 1) i ≡ (if b then now else 0)
-        go true e = rw (lt-ltb (suc i) (suc j + 1) (omega (arith, ltb-true (suc i) (suc j) e)))
-        go false e = rw (le-ltb (suc i) (suc j + 1) (omega (arith, ltb-false (suc i) (suc j) e, z)))
+readings_filled now zero some few = absurd (omega (arith, some))
+readings_filled now (suc zero) some few = refl
+readings_filled now (suc (suc zero)) some few = refl
+readings_filled now (suc (suc (suc zero))) some few = refl
+readings_filled now (suc (suc (suc (suc zero)))) some few = refl
+readings_filled now (suc (suc (suc (suc (suc zero))))) some few = refl
+readings_filled now (suc (suc (suc (suc (suc (suc zero)))))) some few = refl
+readings_filled now (suc (suc (suc (suc (suc (suc (suc zero))))))) some few = refl
+readings_filled now (suc (suc (suc (suc (suc (suc (suc (suc zero)))))))) some few = refl
+readings_filled now (suc (suc (suc (suc (suc (suc (suc (suc (suc n))))))))) some few = absurd (omega (arith, few))
 
 pub readings_long : (now n : ℕ) → length (readings_of now n) ≡ most_processors
 unfolding readings_of
@@ -88,7 +91,7 @@ others : (now : ℕ) (values ceilings : List ℕ) (j : ℕ) → suc j ≤ most_p
 others now values ceilings j few = table_all j (other_seat now values ceilings j) (idle_from now) (λ k l. one k l)
   where
     one : (k : ℕ) → k < j → other_seat now values ceilings j k ≡ idle_from now
-    one k l = rw (zero_at most_processors (suc k), reading_there now (suc j) k (omega (arith, l)) few) refl
+    one k l = rw (none_at most_processors (suc k), zero_at most_processors (suc k), reading_there now (suc j) k (omega (arith, l)) few) refl
 
 pub begun_view : (now : ℕ) (values ceilings : List ℕ) (n : ℕ) → 1 ≤ n → n ≤ most_processors → view (begun now values ceilings n) ≡ fresh base_slots (n - 1) now values ceilings
 begun_view now values ceilings zero some few = absurd (omega (arith, some))
@@ -110,8 +113,8 @@ begun_shape now values ceilings n some few long many = tested (begun now values 
       idles_long = refl;
       some_processor = some;
       few_processors = few;
-      in_seats = λ k. rw (zero_at most_processors k) (omega arith);
-      no_runner = λ k h. zero_at most_processors k;
+      in_seats = λ k. subst IsSeat (sym (none_at most_processors k)) tt;
+      no_runner = λ k h. none_at most_processors k;
       no_last = λ k h. reading_past now n k some h;
       no_idle = λ k h. zero_at most_processors k;
     }

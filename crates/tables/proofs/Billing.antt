@@ -10,7 +10,6 @@ use Rattle.lines.specs.Lines.{occ, one, entry, tally}
 use Rattle.lines.proofs.Occ.{occ_append, one_same, one_other, tally_add, tally_same, tally_le, tally_at}
 use Rattle.lines.proofs.Bridge.{map_apart}
 use Rattle.tables.specs.declared.Tables.{Tables}
-use Rattle.tables.specs.Codes.{status_of}
 use Rattle.tables.specs.View.{row, waiter, occupant, away, highs, lows, readies, waiters, view, Shape}
 use Rattle.tables.specs.Promised.{Step}
 use Rattle.tables.proofs.Away.{seats_alike}
@@ -57,7 +56,7 @@ unfolding gap
 gap_is m r now a b c h = omega arith
 
 abbrev pub charged : Tables → ℕ → List ℕ → ℕ → Tables
-charged m now ts i = record { ids = m.ids; taken = m.taken; parents = m.parents; customers = m.customers; priorities = m.priorities; handles = m.handles; times = ts; lines = m.lines; high = m.high; nhigh = m.nhigh; low = m.low; nlow = m.nlow; four = m.four; waits = m.waits; nwaits = m.nwaits; running = m.running; sems = m.sems; ceilings = m.ceilings; next = m.next; status = m.status; last = now; total = m.total + gap now (view m); idle = i; ended = m.ended; runners = m.runners; lasts = m.lasts; idles = m.idles; processors = m.processors }
+charged m now ts i = record { ids = m.ids; taken = m.taken; parents = m.parents; customers = m.customers; priorities = m.priorities; handles = m.handles; times = ts; lines = m.lines; high = m.high; low = m.low; four = m.four; waits = m.waits; running = m.running; sems = m.sems; ceilings = m.ceilings; next = m.next; status = m.status; last = now; total = m.total + gap now (view m); idle = i; ended = m.ended; runners = m.runners; lasts = m.lasts; idles = m.idles; processors = m.processors }
 
 module _ (m : Tables) (g : Shape m) (now : ℕ) (fits : m.total + gap now (view m) ≤ time_limit) where
   abbrev k : ℕ
@@ -65,7 +64,7 @@ module _ (m : Tables) (g : Shape m) (now : ℕ) (fits : m.total + gap now (view 
 
   -- a machine of the rule book that is charged
   abbrev with_charge : List Process → List Process → List Process → List Waiter → ℕ → List book.Seat → book.Machine
-  with_charge r h l w i ss = record { slots = base_slots; running = r; high = h; low = l; four = m.four; waiting = w; sems = m.sems; ceilings = m.ceilings; next = m.next; status = status_of m.status; last = now; total = m.total + k; idle = i; ended = m.ended; elsewhere = ss }
+  with_charge r h l w i ss = record { slots = base_slots; running = r; high = h; low = l; four = m.four; waiting = w; sems = m.sems; ceilings = m.ceilings; next = m.next; status = m.status; last = now; total = m.total + k; idle = i; ended = m.ended; elsewhere = ss }
 
   pub charge_idle : base_slots ≤ m.running → Step (charge now) m (charged m now m.times (m.idle + k))
   unfolding charge

@@ -1,7 +1,11 @@
 -- Who runs next, over machines alone: the first in the ready line; halt, wait or panic; or whoever runs carries on.
 -- Assumes nothing.
+use Rattle.rules.specs.declared.Status.TheVariants.{Halted, Panicked}
+use Rattle.rules.specs.declared.Status.{Status}
 use Rattle.std.proofs.Common.{◌≡◌, ℕ, ◌<◌, ◌≤◌, Bool, true, false, List, [], ◌∷◌, ◌++◌, map, length, get_or, take, sym, refl, ap, ◌∙◌, true≢false, arith, rules, if◌then◌else◌}
 use Rattle.rules.specs.declared.Answer.{Answer}
+use Rattle.rules.specs.declared.Status.{Status}
+use Rattle.rules.specs.declared.Status.TheVariants.{Halted, Panicked}
 use Rattle.rules.specs.declared.Action.TheVariants.{CarryOn, Run, Wait, Halt, Panic}
 use Rattle.rules.specs.Words.{first}
 use Rattle.rules.specs.Numbers.{base_slots}
@@ -10,7 +14,7 @@ use Rattle.rules.specs.Machine.{Process, Waiter, seated_in, living, counted, tak
 use Rattle.rules.specs.Answers.{Outcome, doing}
 use Rattle.rules.specs.Rules.{act, runs_elsewhere, worth_waiting, schedule, nobody_ready, carry_on, resume}
 use Rattle.lines.specs.Lines.{first_where}
-use Rattle.lines.specs.declared.Found.TheVariants.{At, Nothing}
+use Rattle.std.specs.Prelude.{Some, None}
 use Rattle.lines.proofs.Bridge.{found_first, found_none, any_those, any_none}
 use Rattle.tables.specs.declared.Tables.{Tables}
 use Rattle.tables.specs.declared.Settled.{Settled}
@@ -21,8 +25,8 @@ use Rattle.tables.specs.Promised.{run_next, Step, Comes}
 use Rattle.tables.proofs.Seats.{seats_living, sizes, runs_one, runs_none, at_nucleus, nucleus_any}
 use Rattle.tables.proofs.Moves.{high_runs, low_runs, chosen, high_first, low_first, high_step, low_step}
 
-abbrev pub put_status : ℕ → Tables → Tables
-put_status v m = record { ids = m.ids; taken = m.taken; parents = m.parents; customers = m.customers; priorities = m.priorities; handles = m.handles; times = m.times; lines = m.lines; high = m.high; nhigh = m.nhigh; low = m.low; nlow = m.nlow; four = m.four; waits = m.waits; nwaits = m.nwaits; running = m.running; sems = m.sems; ceilings = m.ceilings; next = m.next; status = v; last = m.last; total = m.total; idle = m.idle; ended = m.ended; runners = m.runners; lasts = m.lasts; idles = m.idles; processors = m.processors }
+abbrev pub put_status : Status → Tables → Tables
+put_status v m = record { ids = m.ids; taken = m.taken; parents = m.parents; customers = m.customers; priorities = m.priorities; handles = m.handles; times = m.times; lines = m.lines; high = m.high; low = m.low; four = m.four; waits = m.waits; running = m.running; sems = m.sems; ceilings = m.ceilings; next = m.next; status = v; last = m.last; total = m.total; idle = m.idle; ended = m.ended; runners = m.runners; lasts = m.lasts; idles = m.idles; processors = m.processors }
 
 -- the first of a list that is known
 pub first_known {ℓ κ} : {A : Type ℓ} {B : Type κ} (xs : List A) (y : A) (ys : List A) (none : B) (some : A → B) → xs ≡ y ∷ ys → first xs none some ≡ some y
@@ -61,14 +65,14 @@ beside_comes x m g r e =
     let there : runs_elsewhere (view m) ≡ true = elsewhere_told m g ∙ e in
     record { seen = first_there m r there _ _ ∙ rw there; shape = g }
 
-pub halt_comes : (x : Answer) (m : Tables) → Shape m → m.running ≡ base_slots → m.nhigh ≡ 0 → m.nlow ≡ 0 → runs_somewhere m.runners ≡ false → m.nwaits ≡ 0 → Comes (nobody_ready x (view m)) (record { tables = put_status 1 m; answer = doing Halt x })
+pub halt_comes : (x : Answer) (m : Tables) → Shape m → m.running ≡ base_slots → m.high.count ≡ 0 → m.low.count ≡ 0 → runs_somewhere m.runners ≡ false → m.waits.count ≡ 0 → Comes (nobody_ready x (view m)) (record { tables = put_status Halted m; answer = doing Halt x })
 unfolding nobody_ready living runs_elsewhere
 halt_comes x m g r h l e w =
     let nobody : seated_in (view m).elsewhere ≡ [] = none_first (seated_in (view m).elsewhere) (elsewhere_told m g ∙ e) in
-    let none : living (view m) ≡ [] = λ i. map (row m) (occupant (r i)) ++ (nobody i ++ (map (row m) (take (h i) m.high) ++ map (row m) (take (l i) m.low) ++ map (λ (w : Waiter). w.process) (map (waiter m) (take (w i) m.waits)))) in
+    let none : living (view m) ≡ [] = λ i. map (row m) (occupant (r i)) ++ (nobody i ++ (map (row m) (take (h i) m.high.slots) ++ map (row m) (take (l i) m.low.slots) ++ map (λ (w : Waiter). w.process) (map (waiter m) (take (w i) m.waits.slots)))) in
     record { seen = first_empty (living (view m)) _ _ none; shape = search rules }
 
-module _ (x : Answer) (m : Tables) (g : Shape m) (alone : runs_somewhere m.runners ≡ false) (some : 0 < m.nwaits) where
+module _ (x : Answer) (m : Tables) (g : Shape m) (alone : runs_somewhere m.runners ≡ false) (some : 0 < m.waits.count) where
   some_living : {B : Type 0} (a b : B) → first (living (view m)) a (λ p. b) ≡ b
   some_living a b = ap (λ (l : List Process). first l a (λ p. b)) (seats_living m g) ∙ go (seats m) (omega (arith, sizes m g))
     where
@@ -76,14 +80,14 @@ module _ (x : Answer) (m : Tables) (g : Shape m) (alone : runs_somewhere m.runne
       go [] k = absurd (omega arith)
       go (y ∷ l) k = refl
 
-  pub wait_comes : (i : ℕ) → first_where (at_nucleus m) 0 (waiters m) ≡ At i → Comes (nobody_ready x (view m)) (record { tables = m; answer = doing Wait x })
+  pub wait_comes : (i : ℕ) → first_where (at_nucleus m) 0 (waiters m) ≡ Some i → Comes (nobody_ready x (view m)) (record { tables = m; answer = doing Wait x })
   unfolding nobody_ready worth_waiting
   wait_comes i e = record {
     seen = some_living _ _ ∙ rw (elsewhere_told m g, alone, nucleus_any m g, any_those (at_nucleus m) (waiters m) _ _ (found_first (at_nucleus m) (waiters m) i e));
     shape = g;
   }
 
-  pub panic_comes : first_where (at_nucleus m) 0 (waiters m) ≡ Nothing → Comes (nobody_ready x (view m)) (record { tables = put_status 2 m; answer = doing Panic x })
+  pub panic_comes : first_where (at_nucleus m) 0 (waiters m) ≡ None → Comes (nobody_ready x (view m)) (record { tables = put_status Panicked m; answer = doing Panic x })
   unfolding nobody_ready worth_waiting
   panic_comes e = record {
     seen = some_living _ _ ∙ rw (elsewhere_told m g, alone, nucleus_any m g, any_none (at_nucleus m) (waiters m) (found_none (at_nucleus m) (waiters m) 0 e));
@@ -91,10 +95,10 @@ module _ (x : Answer) (m : Tables) (g : Shape m) (alone : runs_somewhere m.runne
   }
 
 -- ---- schedule
-pub stuck : (x : Answer) (m : Tables) (r : Settled) → m.nhigh ≡ 0 → m.nlow ≡ 0 → Comes (nobody_ready x (view m)) r → Comes (schedule x (view m)) r
+pub stuck : (x : Answer) (m : Tables) (r : Settled) → m.high.count ≡ 0 → m.low.count ≡ 0 → Comes (nobody_ready x (view m)) r → Comes (schedule x (view m)) r
 unfolding schedule
 stuck x m r h l c =
-    let none : next_of (view m).high (view m).low m.four ≡ [] = λ i. next_of (map (row m) (take (h i) m.high)) (map (row m) (take (l i) m.low)) m.four in
+    let none : next_of (view m).high (view m).low m.four ≡ [] = λ i. next_of (map (row m) (take (h i) m.high.slots)) (map (row m) (take (l i) m.low.slots)) m.four in
     comes_by (schedule x (view m)) (nobody_ready x (view m)) r (first_empty (next_of (view m).high (view m).low m.four) (nobody_ready x (view m)) _ none) c
 
 -- where it is known whether a low one is chosen
@@ -103,25 +107,25 @@ unfolding schedule dispatch
 schedule_by x m b e = ap (λ (c : Bool). first (if c then m.low else m.high) (nobody_ready x m) (λ p. act (Run p.slot) x (chosen c m))) e
 
 module _ (x : Answer) (m : Tables) (g : Shape m) (free : m.running ≡ base_slots) (n : ℕ) (count : n ≡ counted (view m).high (view m).low m.four) where
-  pub high_comes : takes_low (view m) ≡ false → 0 < m.nhigh → Comes (schedule x (view m)) (run_next (get_or m.high 0 0) n x (high_runs n m))
+  pub high_comes : takes_low (view m) ≡ false → 0 < m.high.count → Comes (schedule x (view m)) (run_next (get_or m.high.slots 0 0) n x (high_runs n m))
   high_comes turn some =
       let st : Step (chosen false) m (high_runs n m) = high_step m g free n count some in
       record {
         seen =
             schedule_by x (view m) false turn
-            ∙ first_known (view m).high (row m (get_or m.high 0 0)) (view (high_runs n m)).high (nobody_ready x (view m)) (λ p. act (Run p.slot) x (chosen false (view m))) (ap (map (row m)) (high_first m g free n count some))
-            ∙ ap (act (Run (get_or m.high 0 0)) x) (sym st.seen);
+            ∙ first_known (view m).high (row m (get_or m.high.slots 0 0)) (view (high_runs n m)).high (nobody_ready x (view m)) (λ p. act (Run p.slot) x (chosen false (view m))) (ap (map (row m)) (high_first m g free n count some))
+            ∙ ap (act (Run (get_or m.high.slots 0 0)) x) (sym st.seen);
         shape = st.shape;
       }
 
-  pub low_comes : takes_low (view m) ≡ true → 0 < m.nlow → Comes (schedule x (view m)) (run_next (get_or m.low 0 0) n x (low_runs n m))
+  pub low_comes : takes_low (view m) ≡ true → 0 < m.low.count → Comes (schedule x (view m)) (run_next (get_or m.low.slots 0 0) n x (low_runs n m))
   low_comes turn some =
       let st : Step (chosen true) m (low_runs n m) = low_step m g free n count some in
       record {
         seen =
             schedule_by x (view m) true turn
-            ∙ first_known (view m).low (row m (get_or m.low 0 0)) (view (low_runs n m)).low (nobody_ready x (view m)) (λ p. act (Run p.slot) x (chosen true (view m))) (ap (map (row m)) (low_first m g free n count some))
-            ∙ ap (act (Run (get_or m.low 0 0)) x) (sym st.seen);
+            ∙ first_known (view m).low (row m (get_or m.low.slots 0 0)) (view (low_runs n m)).low (nobody_ready x (view m)) (λ p. act (Run p.slot) x (chosen true (view m))) (ap (map (row m)) (low_first m g free n count some))
+            ∙ ap (act (Run (get_or m.low.slots 0 0)) x) (sym st.seen);
         shape = st.shape;
       }
 

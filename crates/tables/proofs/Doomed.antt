@@ -1,6 +1,7 @@
 -- A kill, over machines alone: the family's rows are struck, and both lines and the processors lose who is of it.
 -- Assumes nothing.
-use Rattle.std.proofs.Common.{◌≡◌, ℕ, zero, suc, ◌+◌, ◌-◌, ◌^◌, ◌<◌, ◌≤◌, Bool, true, false, not, leb, List, ◌∷◌, ◌++◌, map, length, get_or, sym, refl, ap, ◌∙◌, ap₂, true≢false, arith, le-ltb, lt-ltb, ne_eqb, leb-false, leb-true, if◌then◌else◌}
+use Rattle.std.specs.Prelude.{Option, Some, None}
+use Rattle.std.proofs.Common.{◌≡◌, ℕ, zero, suc, ◌+◌, ◌-◌, ◌^◌, ◌<◌, ◌≤◌, Bool, true, false, not, leb, List, ◌∷◌, ◌++◌, map, get_or, sym, refl, ap, ◌∙◌, ap₂, subst, true≢false, arith, le-ltb, lt-ltb, ne_eqb, leb-false, leb-true, if◌then◌else◌}
 use borrow.Author.Tests.{lt-leb}
 use Rattle.rules.specs.Words.{those, among, sum, All}
 use Rattle.rules.proofs.Cases.{All-left, All-right}
@@ -9,49 +10,47 @@ use Rattle.rules.proofs.Sums.{sum_over}
 use Rattle.rules.proofs.Lines.{those_append}
 use Rattle.rules.specs.Machine.{Process, Waiter, family, family_of, rid_of, kill}
 use Rattle.rules.specs.Answers.{mask, left_idle}
-use Rattle.lines.specs.Lines.{entry, marked, alive, kept, struck, spared_of, occ, tally, mask_of_taken}
+use Rattle.lines.specs.Lines.{entry, marked, alive, struck, blanked, spared_of, occ, tally, mask_of_taken}
+use Rattle.lines.specs.Queues.{only}
 use Rattle.lines.proofs.Occ.{occ_keep, sum_marked, tally_add, tally_same}
-use Rattle.lines.proofs.Marks.{get_or_struck, length_struck, struck_cases}
+use Rattle.lines.proofs.Marks.{get_or_struck, get_or_blanked, length_struck, length_blanked, struck_cases}
 use Rattle.lines.proofs.Zeros.{mask_struck}
 use Rattle.lines.proofs.Laws.{kept_view, kept_line}
 use Rattle.lines.proofs.Bridge.{those_map, those_same, map_same, passing}
 use Rattle.tables.specs.declared.Tables.{Tables}
-use Rattle.tables.specs.Codes.{decode, last_code, status_of}
+use Rattle.tables.specs.Codes.{decode, last_code}
 use Rattle.tables.specs.View.{row, waiter, occupant, away, seat_at, highs, lows, readies, waiters, seats, view, live, Shape}
-use Rattle.seats.specs.Seats.{leaving_of}
+use Rattle.seats.specs.Seats.{IsSeat, leaving_of}
 use Rattle.seats.proofs.Tabled.{table_same, table_map}
 use Rattle.seats.proofs.Told.{mask_told, rid_told}
 use Rattle.tables.proofs.Away.{away_struck}
 use Rattle.kin.specs.Families.{climb, elders, Parent, Kin, kin, Marks}
 use Rattle.tables.specs.Promised.{Kills}
 use Rattle.tables.proofs.Seats.{Seat, seats_living, seats_slots, seated, living_seat}
-use Rattle.kin.proofs.Climbs.{spared_at, climb_struck, kin_child}
+use Rattle.kin.proofs.Climbs.{spared_at, orphaned, spared_parent, no_parent_left, climb_struck, kin_child}
 
 -- the sum of what the doomed have
 abbrev pub of_doomed : List Bool → (ℕ → ℕ) → ℕ
 of_doomed ds f = tally (λ s. if marked ds s then f s else 0) base_slots
 
 -- the mask of the processors that the doomed leave
-abbrev pub of_left : List Bool → List ℕ → ℕ
+abbrev pub of_left : List Bool → List (Option ℕ) → ℕ
 of_left ds cs = tally (λ k. if marked (leaving_of ds cs) k then 2 ^ k else 0) most_processors
 
 abbrev pub killed : Tables → List Bool → Tables
 killed m ds = record {
   ids = struck ds m.ids;
   taken = m.taken - of_doomed ds (λ s. 2 ^ s);
-  parents = struck ds m.parents;
+  parents = orphaned ds m.parents;
   customers = struck ds m.customers;
   priorities = struck ds m.priorities;
   handles = struck ds m.handles;
   times = struck ds m.times;
   lines = struck ds m.lines;
-  high = kept (alive ds) m.high m.nhigh;
-  nhigh = length (those (alive ds) (highs m));
-  low = kept (alive ds) m.low m.nlow;
-  nlow = length (those (alive ds) (lows m));
+  high = only (alive ds) m.high;
+  low = only (alive ds) m.low;
   four = m.four;
-  waits = kept (alive ds) m.waits m.nwaits;
-  nwaits = length (those (alive ds) (waiters m));
+  waits = only (alive ds) m.waits;
   running = spared_of base_slots ds m.running;
   sems = m.sems;
   ceilings = m.ceilings;
@@ -61,7 +60,7 @@ killed m ds = record {
   total = m.total;
   idle = m.idle;
   ended = m.ended + of_doomed ds (entry m.times);
-  runners = struck (leaving_of ds m.runners) m.runners;
+  runners = blanked None (leaving_of ds m.runners) m.runners;
   lasts = m.lasts;
   idles = m.idles;
   processors = m.processors;
@@ -72,7 +71,7 @@ not_true_is true e = sym e
 not_true_is false e = refl
 
 -- a free row is of nobody's family: the id looked for is above 0
-kin_alive : (ps ids : List ℕ) (n s : ℕ) → 0 < n → kin ps ids n s ≡ true → 0 < get_or ids s 0
+kin_alive : (ps : List (Option ℕ)) (ids : List ℕ) (n s : ℕ) → 0 < n → kin ps ids n s ≡ true → 0 < get_or ids s 0
 unfolding climb
 kin_alive ps ids n s some e = go (get_or ids s 0) e
   where
@@ -131,16 +130,16 @@ module _ (m : Tables) (g : Shape m) (n : ℕ) (ds : List Bool) (w : Marks m.pare
 
   -- ---- the three parts of the view
   highs_killed : highs r ≡ those (alive ds) (highs m)
-  highs_killed = kept_view base_slots (alive ds) m.high m.nhigh g.high_line
+  highs_killed = kept_view base_slots (alive ds) m.high.slots m.high.count g.high_line
 
   lows_killed : lows r ≡ those (alive ds) (lows m)
-  lows_killed = kept_view base_slots (alive ds) m.low m.nlow g.low_line
+  lows_killed = kept_view base_slots (alive ds) m.low.slots m.low.count g.low_line
 
   readies_killed : readies r ≡ those (alive ds) (readies m)
   readies_killed = ap₂ (λ (a b : List ℕ). a ++ b) highs_killed lows_killed ∙ sym (those_append (alive ds) (highs m) (lows m))
 
   waiters_killed : waiters r ≡ those (alive ds) (waiters m)
-  waiters_killed = kept_view base_slots (alive ds) m.waits m.nwaits g.waits_line
+  waiters_killed = kept_view base_slots (alive ds) m.waits.slots m.waits.count g.waits_line
 
   seats_killed : seats r ≡ those (alive ds) (seats m)
   seats_killed =
@@ -229,7 +228,7 @@ module _ (m : Tables) (g : Shape m) (n : ℕ) (ds : List Bool) (w : Marks m.pare
           waiting = waiting_killed i;
           sems = m.sems;
           next = m.next;
-          status = status_of m.status;
+          status = m.status;
           last = m.last;
           total = m.total;
           idle = m.idle;
@@ -272,11 +271,14 @@ module _ (m : Tables) (g : Shape m) (n : ℕ) (ds : List Bool) (w : Marks m.pare
       g.once s t a b (omega (arith, x, h)) (sym x ∙ e ∙ y)
 
   parent_killed : Kin r.parents r.ids
-  parent_killed s p b e = by_fate (Parent r.ids s p) s (λ f. absurd (omega (arith, e, dead_entry m.parents s f))) spared
+  parent_killed s p b e = by_fate (Parent r.ids s p) s (λ f. none_some (sym (no_parent_left ds m.parents s f) ∙ e)) spared
     where
+      none_some : ◌≡◌ {A = Option ℕ} None (Some p) → Parent r.ids s p
+      none_some z = let w : ◌≡◌ {A = ℕ} 0 1 = cc in absurd (omega arith)
+
       spared : marked ds s ≡ false → Parent r.ids s p
       spared f =
-          let up : get_or m.parents s 0 ≡ suc p = sym (spared_at ds m.parents s f) ∙ e in
+          let up : get_or m.parents s None ≡ Some p = sym (spared_parent ds m.parents s f) ∙ e in
           let q = g.parent s p b up in
           let z : marked ds p ≡ false = w.each p q.slot ∙ kin_child m.parents m.ids g.parent n s p b up (sym (w.each s b) ∙ f) in
           record { slot = q.slot; alive = omega (arith, q.alive, spared_at ds m.ids p z); older = omega (arith, q.older, spared_at ds m.ids p z, spared_at ds m.ids s f) }
@@ -288,11 +290,19 @@ module _ (m : Tables) (g : Shape m) (n : ℕ) (ds : List Bool) (w : Marks m.pare
   pub bits_freed : 0 < n → mask_of_taken base_slots (struck ds m.ids) + of_doomed ds (λ s. 2 ^ s) ≡ m.taken
   bits_freed some = mask_struck base_slots m.ids ds (λ s b e. kin_alive m.parents m.ids n s some (sym (w.each s b) ∙ e)) ∙ sym g.taken_mask
 
+  still_seat : (b : Bool) (c : Option ℕ) → IsSeat c → IsSeat (if b then None else c)
+  still_seat true c h = tt
+  still_seat false c h = h
+
+  still_none : (b : Bool) (c : Option ℕ) → c ≡ None → (if b then None else c) ≡ None
+  still_none true c h = refl
+  still_none false c h = h
+
   shape_killed : 0 < n → Shape r
   shape_killed some = record {
     ids_long = length_struck ds m.ids ∙ g.ids_long;
     taken_mask = omega (arith, bits_freed some);
-    parents_long = length_struck ds m.parents ∙ g.parents_long;
+    parents_long = length_blanked None ds m.parents ∙ g.parents_long;
     customers_long = length_struck ds m.customers ∙ g.customers_long;
     priorities_long = length_struck ds m.priorities ∙ g.priorities_long;
     handles_long = length_struck ds m.handles ∙ g.handles_long;
@@ -300,9 +310,9 @@ module _ (m : Tables) (g : Shape m) (n : ℕ) (ds : List Bool) (w : Marks m.pare
     lines_long = length_struck ds m.lines ∙ g.lines_long;
     sems_long = g.sems_long;
     ceilings_long = g.ceilings_long;
-    high_line = kept_line base_slots (alive ds) m.high m.nhigh g.high_line;
-    low_line = kept_line base_slots (alive ds) m.low m.nlow g.low_line;
-    waits_line = kept_line base_slots (alive ds) m.waits m.nwaits g.waits_line;
+    high_line = kept_line base_slots (alive ds) m.high.slots m.high.count g.high_line;
+    low_line = kept_line base_slots (alive ds) m.low.slots m.low.count g.low_line;
+    waits_line = kept_line base_slots (alive ds) m.waits.slots m.waits.count g.waits_line;
     runner = runner_killed;
     homes = λ s b. counted (seats m) (seats r) seats_killed m.ids s (g.homes s b);
     coded = λ s b. sym (counted (waiters m) (waiters r) waiters_killed m.lines s (sym (g.coded s b)));
@@ -314,14 +324,13 @@ module _ (m : Tables) (g : Shape m) (n : ℕ) (ds : List Bool) (w : Marks m.pare
     no_priority = blank_killed m.priorities g.no_priority;
     no_handle = blank_killed m.handles g.no_handle;
     no_time = blank_killed m.times g.no_time;
-    status = g.status;
-    runners_long = length_struck (leaving_of ds m.runners) m.runners ∙ g.runners_long;
+    runners_long = length_blanked None (leaving_of ds m.runners) m.runners ∙ g.runners_long;
     lasts_long = g.lasts_long;
     idles_long = g.idles_long;
     some_processor = g.some_processor;
     few_processors = g.few_processors;
-    in_seats = λ k. struck_cases (λ x. x ≤ base_slots) (leaving_of ds m.runners) m.runners k (λ _. omega arith) (λ _. g.in_seats k);
-    no_runner = λ k h. struck_cases (λ x. x ≡ 0) (leaving_of ds m.runners) m.runners k (λ _. refl) (λ _. g.no_runner k h);
+    in_seats = λ k. subst IsSeat (sym (get_or_blanked None (leaving_of ds m.runners) m.runners k)) (still_seat (marked (leaving_of ds m.runners) k) (get_or m.runners k None) (g.in_seats k));
+    no_runner = λ k h. get_or_blanked None (leaving_of ds m.runners) m.runners k ∙ still_none (marked (leaving_of ds m.runners) k) (get_or m.runners k None) (g.no_runner k h);
     no_last = g.no_last;
     no_idle = g.no_idle;
     spent = omega (arith, g.spent, times_kept);

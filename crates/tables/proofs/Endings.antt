@@ -1,10 +1,9 @@
 -- Who ends by a trap or by call −2, over machines alone.
 -- Assumes nothing.
+use Rattle.std.specs.Prelude.{None, Option, ℤ}
 use Rattle.std.proofs.Common.{◌≡◌, ℕ, ◌<◌, true, get_or, sym, refl, ap, ◌∙◌, eq-eqb, ne_eqb}
 use Rattle.rules.specs.declared.Cause.{Cause}
 use Rattle.rules.specs.declared.Action.TheVariants.{PassUp}
-use Rattle.rules.specs.declared.Result.{Result}
-use Rattle.rules.specs.declared.Result.TheVariants.{Silent}
 use Rattle.rules.specs.declared.Answer.{Answer}
 use Rattle.rules.specs.Numbers.{base_slots}
 use Rattle.rules.specs.Machine as book
@@ -23,14 +22,14 @@ use Rattle.kin.proofs.Climbs.{kin_here}
 use Rattle.tables.proofs.Choosing.{comes_by}
 
 -- what follows a kill, said of the machine that is left
-pub after_kill : (f : Answer → book.Machine → Outcome) (z : Result) (n : ℕ) (m : Tables) (k : Killed) → Kills n m k → (x : Answer) → x ≡ ended_told z k.ended k.idled
+pub after_kill : (f : Answer → book.Machine → Outcome) (z : Option ℤ) (n : ℕ) (m : Tables) (k : Killed) → Kills n m k → (x : Answer) → x ≡ ended_told z k.ended k.idled
     → f (ended_told z (mask (family_of n (view m))) (left_idle n (view m))) (kill n (view m)) ≡ f x (view k.tables)
 after_kill f z n m k t x e = (λ i. f (ended_told z (sym t.told i) (sym t.told_idle i)) (sym t.seen i)) ∙ ap (λ (y : Answer). f y (view k.tables)) (sym e)
 
 -- the named end with whoever runs, and schedule
-pub dies : (n : ℕ) (m : Tables) (k : Killed) → Kills n m k → (x : Answer) → x ≡ ended_told Silent k.ended k.idled → (r : Settled) → Comes (schedule x (view k.tables)) r → Comes (die n (view m)) r
+pub dies : (n : ℕ) (m : Tables) (k : Killed) → Kills n m k → (x : Answer) → x ≡ ended_told None k.ended k.idled → (r : Settled) → Comes (schedule x (view k.tables)) r → Comes (die n (view m)) r
 unfolding die
-dies n m k t x e r c = comes_by _ _ r (after_kill schedule Silent n m k t x e) c
+dies n m k t x e r c = comes_by _ _ r (after_kill schedule None n m k t x e) c
 
 abbrev pub caller : Tables → Process
 caller m = row m m.running

@@ -8,6 +8,8 @@ use Rattle.rules.specs.Numbers.{base_slots}
 use Rattle.rules.specs.Machine as book
 use Rattle.rules.specs.Machine.{Process, with_ready, is_high}
 use Rattle.lines.specs.Lines.{InSlots, Line, joined, occ}
+use Rattle.lines.specs.declared.queue.Queue.{Queue}
+use Rattle.lines.specs.Queues.{longer, pushed}
 use Rattle.lines.proofs.Occ.{occ_append, occ_keep}
 use Rattle.lines.proofs.Laws.{keep_le, slots_keep}
 use Rattle.lines.proofs.Turns.{join_more, join_none}
@@ -36,27 +38,27 @@ occ_parts t x l = go (t x) (occ_keep t x l) (occ_keep (λ s. not (t s)) x l)
     go false p q = omega arith
 
 -- ---- both lines
-module _ (m : Tables) (high : Line base_slots m.high m.nhigh) (low : Line base_slots m.low m.nlow) (us : List ℕ) (room : m.nhigh + m.nlow + length us ≤ base_slots) where
+module _ (m : Tables) (high : Line base_slots m.high.slots m.high.count) (low : Line base_slots m.low.slots m.low.count) (us : List ℕ) (room : m.high.count + m.low.count + length us ≤ base_slots) where
   abbrev r : Tables
   r = lined_up us m
 
-  room_high : m.nhigh + length us ≤ base_slots
+  room_high : m.high.count + length us ≤ base_slots
   room_high = omega (arith, room)
 
-  room_low : m.nlow + length us ≤ base_slots
+  room_low : m.low.count + length us ≤ base_slots
   room_low = omega (arith, room)
 
   highs_lined : highs r ≡ highs m ++ those (own_line true m) us
-  highs_lined = longer_view m.high m.nhigh high (own_line true m) us room_high
+  highs_lined = longer_view m.high.slots m.high.count high (own_line true m) us room_high
 
   lows_lined : lows r ≡ lows m ++ those (own_line false m) us
-  lows_lined = longer_view m.low m.nlow low (own_line false m) us room_low
+  lows_lined = longer_view m.low.slots m.low.count low (own_line false m) us room_low
 
-  pub high_lined : InSlots base_slots us → Line base_slots r.high r.nhigh
-  high_lined = longer_line m.high m.nhigh high (own_line true m) us room_high
+  pub high_lined : InSlots base_slots us → Line base_slots r.high.slots r.high.count
+  high_lined = longer_line m.high.slots m.high.count high (own_line true m) us room_high
 
-  pub low_lined : InSlots base_slots us → Line base_slots r.low r.nlow
-  low_lined = longer_line m.low m.nlow low (own_line false m) us room_low
+  pub low_lined : InSlots base_slots us → Line base_slots r.low.slots r.low.count
+  low_lined = longer_line m.low.slots m.low.count low (own_line false m) us room_low
 
   pub occ_lined : (x : ℕ) → occ x (readies r) ≡ occ x (readies m) + occ x us
   occ_lined x =
@@ -81,26 +83,30 @@ module _ (m : Tables) (high : Line base_slots m.high m.nhigh) (low : Line base_s
       rows l t = map-append (row m) l (those (λ s. t (row m s)) us) ∙ ap (λ (ps : List Process). map (row m) l ++ ps) (sym (those_map t (row m) us))
 
 -- ---- one joins: the line that is its own is one longer, and the other is as it was
-one_more : (q : List ℕ) (n s : ℕ) → n < length q → set q n s ≡ joined q n (s ∷ [])
-one_more q n s h = ap (λ (l : List ℕ). set l n s) (sym (join_none q n (omega (arith, h)))) ∙ join_more q n n [] s (omega arith) h
+one_more : (q : Queue) (s : ℕ) → q.count < length q.slots → pushed s q ≡ longer (s ∷ []) q
+one_more q s h =
+    let n = q.count in
+    let e = ap (λ (l : List ℕ). set l n s) (sym (join_none q.slots n (omega (arith, h)))) ∙ join_more q.slots n n [] s (omega arith) h in
+    λ i. record { slots = e i; count = n + 1 }
 
-none_more : (q : List ℕ) (n : ℕ) → n ≤ length q → (q ≡ joined q n []) × (n ≡ n + 0)
-none_more q n h = (sym (join_none q n h), omega arith)
+none_more : (q : Queue) → q.count ≤ length q.slots → q ≡ longer [] q
+none_more q h =
+    let e = sym (join_none q.slots q.count h) in
+    let k : q.count ≡ q.count + 0 = omega arith in
+    λ i. record { slots = e i; count = k i }
 
-module _ (m : Tables) (s : ℕ) (high : m.nhigh < length m.high) (low : m.nlow < length m.low) where
+module _ (m : Tables) (s : ℕ) (high : m.high.count < length m.high.slots) (low : m.low.count < length m.low.slots) where
   -- the lines, where it is known which one is its own
   abbrev by_own : Bool → Tables
   by_own b =
       let h = if b then s ∷ [] else [] in
       let l = if not b then s ∷ [] else [] in
-      put_ready (joined m.high m.nhigh h) (m.nhigh + length h) (joined m.low m.nlow l) (m.nlow + length l) m
+      put_ready (longer h m.high) (longer l m.low) m
 
-  pub joins_high : own_line true m s ≡ true → put_ready (set m.high m.nhigh s) (m.nhigh + 1) m.low m.nlow m ≡ lined_up (s ∷ []) m
+  pub joins_high : own_line true m s ≡ true → put_ready (pushed s m.high) m.low m ≡ lined_up (s ∷ []) m
   joins_high e =
-      let l = none_more m.low m.nlow (omega (arith, low)) in
-      (λ i. put_ready (one_more m.high m.nhigh s high i) (m.nhigh + 1) (l.0 i) (l.1 i) m) ∙ ap by_own (sym e)
+      (λ i. put_ready (one_more m.high s high i) (none_more m.low (omega (arith, low)) i) m) ∙ ap by_own (sym e)
 
-  pub joins_low : own_line true m s ≡ false → put_ready m.high m.nhigh (set m.low m.nlow s) (m.nlow + 1) m ≡ lined_up (s ∷ []) m
+  pub joins_low : own_line true m s ≡ false → put_ready m.high (pushed s m.low) m ≡ lined_up (s ∷ []) m
   joins_low e =
-      let h = none_more m.high m.nhigh (omega (arith, high)) in
-      (λ i. put_ready (h.0 i) (h.1 i) (one_more m.low m.nlow s low i) (m.nlow + 1) m) ∙ ap by_own (sym e)
+      (λ i. put_ready (none_more m.high (omega (arith, high)) i) (one_more m.low s low i) m) ∙ ap by_own (sym e)

@@ -8,6 +8,8 @@ use Rattle.rules.specs.Numbers.{base_slots}
 use Rattle.rules.specs.Machine as book
 use Rattle.rules.specs.Machine.{Process, Waiter, with_places, with_ready, counted, back, block}
 use Rattle.lines.specs.Lines.{InSlots, Line, occ, one, taken_out, removed}
+use Rattle.lines.specs.declared.queue.Queue.{Queue}
+use Rattle.lines.specs.Queues.{items, pushed, without}
 use Rattle.lines.proofs.Occ.{one_same, one_other, occ_append, occ_snoc}
 use Rattle.lines.proofs.Laws.{line_size, line_slot, push_view, push_line, removed_view, removed_line}
 use Rattle.lines.proofs.Bridge.{map_apart}
@@ -19,20 +21,20 @@ use Rattle.tables.proofs.Seats.{occ_self, occ_nobody, occ_seats, pos_live, occup
 use Rattle.tables.proofs.Lining.{high_lined, low_lined, occ_lined, lined_seen}
 
 -- the same tables, but for who waits
-abbrev pub put_waits : List ℕ → ℕ → List ℕ → Tables → Tables
-put_waits w k ls m = record { ids = m.ids; taken = m.taken; parents = m.parents; customers = m.customers; priorities = m.priorities; handles = m.handles; times = m.times; lines = ls; high = m.high; nhigh = m.nhigh; low = m.low; nlow = m.nlow; four = m.four; waits = w; nwaits = k; running = m.running; sems = m.sems; ceilings = m.ceilings; next = m.next; status = m.status; last = m.last; total = m.total; idle = m.idle; ended = m.ended; runners = m.runners; lasts = m.lasts; idles = m.idles; processors = m.processors }
+abbrev pub put_waits : Queue → List ℕ → Tables → Tables
+put_waits w ls m = record { ids = m.ids; taken = m.taken; parents = m.parents; customers = m.customers; priorities = m.priorities; handles = m.handles; times = m.times; lines = ls; high = m.high; low = m.low; four = m.four; waits = w; running = m.running; sems = m.sems; ceilings = m.ceilings; next = m.next; status = m.status; last = m.last; total = m.total; idle = m.idle; ended = m.ended; runners = m.runners; lasts = m.lasts; idles = m.idles; processors = m.processors }
 
 -- .. but for who is where
-abbrev pub put_places : ℕ → ℕ → List ℕ → ℕ → List ℕ → ℕ → List ℕ → ℕ → List ℕ → Tables → Tables
-put_places r n h nh l nl w k ls m = put_running r n (put_ready h nh l nl (put_waits w k ls m))
+abbrev pub put_places : ℕ → ℕ → Queue → Queue → Queue → List ℕ → Tables → Tables
+put_places r n h l w ls m = put_running r n (put_ready h l (put_waits w ls m))
 
 -- each slot is seated as often as before, and the codes are those of the waiting
-pub moved_shape : (m : Tables) → Shape m → (r n : ℕ) (h : List ℕ) (nh : ℕ) (l : List ℕ) (nl : ℕ) (w : List ℕ) (k : ℕ) (ls : List ℕ)
-    → r ≤ base_slots → Line base_slots h nh → Line base_slots l nl → Line base_slots w k → length ls ≡ base_slots
-    → ((s : ℕ) → s < base_slots → occ s (seats (put_places r n h nh l nl w k ls m)) ≡ occ s (seats m))
-    → ((s : ℕ) → s < base_slots → (live (get_or ls s 0) ≡ occ s (take k w)) × (get_or ls s 0 ≤ last_code))
-    → Shape (put_places r n h nh l nl w k ls m)
-moved_shape m g r n h nh l nl w k ls runs high low waits long homes codes = record {
+pub moved_shape : (m : Tables) → Shape m → (r n : ℕ) (h l w : Queue) (ls : List ℕ)
+    → r ≤ base_slots → Line base_slots h.slots h.count → Line base_slots l.slots l.count → Line base_slots w.slots w.count → length ls ≡ base_slots
+    → ((s : ℕ) → s < base_slots → occ s (seats (put_places r n h l w ls m)) ≡ occ s (seats m))
+    → ((s : ℕ) → s < base_slots → (live (get_or ls s 0) ≡ occ s (items w)) × (get_or ls s 0 ≤ last_code))
+    → Shape (put_places r n h l w ls m)
+moved_shape m g r n h l w ls runs high low waits long homes codes = record {
   ids_long = g.ids_long;
   taken_mask = g.taken_mask;
   parents_long = g.parents_long;
@@ -57,7 +59,6 @@ moved_shape m g r n h nh l nl w k ls runs high low waits long homes codes = reco
   no_priority = g.no_priority;
   no_handle = g.no_handle;
   no_time = g.no_time;
-  status = g.status;
   runners_long = g.runners_long;
   lasts_long = g.lasts_long;
   idles_long = g.idles_long;
@@ -91,21 +92,21 @@ first_leaves q n l some =
     ∙ ap₂ (λ x (xs : List ℕ). x ∷ xs) (get_or-take n q 0 0 some) (sym (removed_view base_slots q n 0 l some))
 
 -- one of the ready runs, and the lines are without it
-pub run_shape : (m : Tables) → Shape m → m.running ≡ base_slots → (s n : ℕ) (h : List ℕ) (nh : ℕ) (l : List ℕ) (nl : ℕ)
-    → s < base_slots → Line base_slots h nh → Line base_slots l nl
-    → ((x : ℕ) → occ x (readies m) ≡ one s x + (occ x (take nh h) + occ x (take nl l)))
-    → Shape (put_running s n (put_ready h nh l nl m))
-run_shape m g free s n h nh l nl b high low leaves =
-    moved_shape m g s n h nh l nl m.waits m.nwaits m.lines (omega (arith, b)) high low g.waits_line g.lines_long
-    (λ x c. omega (arith, occ_seats m x, occ_seats (put_running s n (put_ready h nh l nl m)) x, leaves x, occ_append x (take nh h) (take nl l), ap (λ r. occ x (occupant r)) free, ap (occ x) (occupant_some s b), occ_head x s [], occ_nobody x))
+pub run_shape : (m : Tables) → Shape m → m.running ≡ base_slots → (s n : ℕ) (h l : Queue)
+    → s < base_slots → Line base_slots h.slots h.count → Line base_slots l.slots l.count
+    → ((x : ℕ) → occ x (readies m) ≡ one s x + (occ x (items h) + occ x (items l)))
+    → Shape (put_running s n (put_ready h l m))
+run_shape m g free s n h l b high low leaves =
+    moved_shape m g s n h l m.waits m.lines (omega (arith, b)) high low g.waits_line g.lines_long
+    (λ x c. omega (arith, occ_seats m x, occ_seats (put_running s n (put_ready h l m)) x, leaves x, occ_append x (items h) (items l), ap (λ r. occ x (occupant r)) free, ap (occ x) (occupant_some s b), occ_head x s [], occ_nobody x))
     (λ x c. (g.coded x c, g.codes x c))
 
 -- the first of the high line runs, and of the low; the count of four is then n
 abbrev pub high_runs : ℕ → Tables → Tables
-high_runs n m = put_running (get_or m.high 0 0) n (put_ready (removed m.high m.nhigh 0) (m.nhigh - 1) m.low m.nlow m)
+high_runs n m = put_running (get_or m.high.slots 0 0) n (put_ready (without 0 m.high) m.low m)
 
 abbrev pub low_runs : ℕ → Tables → Tables
-low_runs n m = put_running (get_or m.low 0 0) n (put_ready m.high m.nhigh (removed m.low m.nlow 0) (m.nlow - 1) m)
+low_runs n m = put_running (get_or m.low.slots 0 0) n (put_ready m.high (without 0 m.low) m)
 
 -- the rule book's choice, where it is known whether it takes a low one
 abbrev pub chosen : Bool → book.Machine → book.Machine
@@ -117,36 +118,36 @@ module _ (m : Tables) (g : Shape m) (free : m.running ≡ base_slots) (n : ℕ) 
   abbrev by_lists : List Process → List Process → List Process → ℕ → book.Machine
   by_lists r h l k = with_ready h l k (with_places r (view m).waiting (view m))
 
-  module _ (some : 0 < m.nhigh) where
-    high_slot : get_or m.high 0 0 < base_slots
+  module _ (some : 0 < m.high.count) where
+    high_slot : get_or m.high.slots 0 0 < base_slots
     high_slot = line_slot g.high_line 0 some
 
-    pub high_first : highs m ≡ get_or m.high 0 0 ∷ highs (high_runs n m)
-    high_first = first_leaves m.high m.nhigh g.high_line some
+    pub high_first : highs m ≡ get_or m.high.slots 0 0 ∷ highs (high_runs n m)
+    high_first = first_leaves m.high.slots m.high.count g.high_line some
 
     pub high_step : Step (chosen false) m (high_runs n m)
     high_step = record {
       seen =
-          ap₂ (λ (r : List Process) (k : ℕ). by_lists r (view (high_runs n m)).high (view m).low k) (ap (map (row m)) (occupant_some (get_or m.high 0 0) high_slot)) count
+          ap₂ (λ (r : List Process) (k : ℕ). by_lists r (view (high_runs n m)).high (view m).low k) (ap (map (row m)) (occupant_some (get_or m.high.slots 0 0) high_slot)) count
           ∙ sym (ap (λ (l : List ℕ). by_lists (front (map (row m) l)) (rest (map (row m) l)) (view m).low (counted (view m).high (view m).low m.four)) high_first);
-      shape = run_shape m g free (get_or m.high 0 0) n (removed m.high m.nhigh 0) (m.nhigh - 1) m.low m.nlow high_slot (removed_line base_slots m.high m.nhigh 0 g.high_line some) g.low_line
-          (λ x. omega (arith, occ_append x (highs m) (lows m), ap (occ x) high_first, occ_head x (get_or m.high 0 0) (highs (high_runs n m))));
+      shape = run_shape m g free (get_or m.high.slots 0 0) n (without 0 m.high) m.low high_slot (removed_line base_slots m.high.slots m.high.count 0 g.high_line some) g.low_line
+          (λ x. omega (arith, occ_append x (highs m) (lows m), ap (occ x) high_first, occ_head x (get_or m.high.slots 0 0) (highs (high_runs n m))));
     }
 
-  module _ (some : 0 < m.nlow) where
-    low_slot : get_or m.low 0 0 < base_slots
+  module _ (some : 0 < m.low.count) where
+    low_slot : get_or m.low.slots 0 0 < base_slots
     low_slot = line_slot g.low_line 0 some
 
-    pub low_first : lows m ≡ get_or m.low 0 0 ∷ lows (low_runs n m)
-    low_first = first_leaves m.low m.nlow g.low_line some
+    pub low_first : lows m ≡ get_or m.low.slots 0 0 ∷ lows (low_runs n m)
+    low_first = first_leaves m.low.slots m.low.count g.low_line some
 
     pub low_step : Step (chosen true) m (low_runs n m)
     low_step = record {
       seen =
-          ap₂ (λ (r : List Process) (k : ℕ). by_lists r (view m).high (view (low_runs n m)).low k) (ap (map (row m)) (occupant_some (get_or m.low 0 0) low_slot)) count
+          ap₂ (λ (r : List Process) (k : ℕ). by_lists r (view m).high (view (low_runs n m)).low k) (ap (map (row m)) (occupant_some (get_or m.low.slots 0 0) low_slot)) count
           ∙ sym (ap (λ (l : List ℕ). by_lists (front (map (row m) l)) (view m).high (rest (map (row m) l)) (counted (view m).high (view m).low m.four)) low_first);
-      shape = run_shape m g free (get_or m.low 0 0) n m.high m.nhigh (removed m.low m.nlow 0) (m.nlow - 1) low_slot g.high_line (removed_line base_slots m.low m.nlow 0 g.low_line some)
-          (λ x. omega (arith, occ_append x (highs m) (lows m), ap (occ x) low_first, occ_head x (get_or m.low 0 0) (lows (low_runs n m))));
+      shape = run_shape m g free (get_or m.low.slots 0 0) n m.high (without 0 m.low) low_slot g.high_line (removed_line base_slots m.low.slots m.low.count 0 g.low_line some)
+          (λ x. omega (arith, occ_append x (highs m) (lows m), ap (occ x) low_first, occ_head x (get_or m.low.slots 0 0) (lows (low_runs n m))));
     }
 
 -- ---- whoever runs goes to the end of its ready line
@@ -167,20 +168,20 @@ back_step m g h =
     let r = m.running in
     let us = r ∷ [] in
     let b = unmanned m in
-    let room : b.nhigh + b.nlow + length us ≤ base_slots = omega (arith, room_beside m g h) in
+    let room : b.high.count + b.low.count + length us ≤ base_slots = omega (arith, room_beside m g h) in
     let slots = one_slot r h in
     record {
       seen =
           lined_seen b g.high_line g.low_line us room
           ∙ ap (λ (ps : List Process). book.joined ps (with_places [] (view m).waiting (view m))) (sym (runs_one m g h));
-      shape = moved_shape m g base_slots m.four _ _ _ _ _ _ _ (omega arith) (high_lined b g.high_line g.low_line us room slots) (low_lined b g.high_line g.low_line us room slots) g.waits_line g.lines_long
+      shape = moved_shape m g base_slots m.four _ _ _ _ (omega arith) (high_lined b g.high_line g.low_line us room slots) (low_lined b g.high_line g.low_line us room slots) g.waits_line g.lines_long
           (λ x c. omega (arith, occ_seats m x, occ_seats (backed m) x, occ_lined b g.high_line g.low_line us room x, ap (occ x) (occupant_some r h), occ_nobody x))
           (λ x c. (g.coded x c, g.codes x c));
     }
 
 -- ---- whoever runs joins a waiting line
 abbrev pub blocked : Tables → ℕ → Tables
-blocked m c = put_running base_slots m.four (put_waits (set m.waits m.nwaits m.running) (m.nwaits + 1) (set m.lines m.running c) m)
+blocked m c = put_running base_slots m.four (put_waits (pushed m.running m.waits) (set m.lines m.running c) m)
 
 module _ (m : Tables) (g : Shape m) (h : m.running < base_slots) (c : ℕ) (lo : 1 ≤ c) (hi : c ≤ last_code) where
   abbrev r : ℕ
@@ -198,8 +199,8 @@ module _ (m : Tables) (g : Shape m) (h : m.running < base_slots) (c : ℕ) (lo :
   pub block_step : Step (block (decode c)) m (blocked m c)
   unfolding block
   block_step =
-      let room : m.nwaits < base_slots = omega (arith, room_beside m g h) in
-      let joins : waiters (blocked m c) ≡ waiters m ++ (r ∷ []) = push_view base_slots m.waits m.nwaits r g.waits_line room in
+      let room : m.waits.count < base_slots = omega (arith, room_beside m g h) in
+      let joins : waiters (blocked m c) ≡ waiters m ++ (r ∷ []) = push_view base_slots m.waits.slots m.waits.count r g.waits_line room in
       record {
         seen =
             ap (λ (l : List Waiter). with_places [] l (view m)) (
@@ -209,7 +210,7 @@ module _ (m : Tables) (g : Shape m) (h : m.running < base_slots) (c : ℕ) (lo :
             (map_apart r (waiter (blocked m c)) (waiter m) (λ x n. ap (λ v. at_code v (row m x)) (code_other x n)) (waiters m) not_waiting)
             (ap (λ v. at_code v (row m r) ∷ []) code_own ∙ ap (map (λ (p : Process). at_code c p)) (sym (runs_one m g h)))
             );
-        shape = moved_shape m g base_slots m.four _ _ _ _ _ _ _ (omega arith) g.high_line g.low_line (push_line base_slots m.waits m.nwaits r g.waits_line room h) (simp length-set g.lines_long)
+        shape = moved_shape m g base_slots m.four _ _ _ _ (omega arith) g.high_line g.low_line (push_line base_slots m.waits.slots m.waits.count r g.waits_line room h) (simp length-set g.lines_long)
             (λ x b. omega (arith, occ_seats m x, occ_seats (blocked m c) x, ap (occ x) joins, occ_snoc x (waiters m) r, ap (occ x) (occupant_some r h), occ_head x r [], occ_nobody x))
             (λ x b. coded_now x b joins (ℕ_discrete x r));
       }

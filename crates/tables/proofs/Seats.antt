@@ -145,7 +145,7 @@ module _ (m : Tables) (g : Shape m) where
   pub few : length (seats m) ≤ base_slots
   few = omega (arith, length_occ base_slots (seats m) seats_slots, tally_le (λ s. occ s (seats m)) (λ s. 1) base_slots (λ s b. omega (arith, g.homes s b, live_le (get_or m.ids s 0))), tally_ones base_slots)
 
-  pub sizes : length (seats m) ≡ length (occupant m.running) + (length (away m.runners) + (m.nhigh + m.nlow + m.nwaits))
+  pub sizes : length (seats m) ≡ length (occupant m.running) + (length (away m.runners) + (m.high.count + m.low.count + m.waits.count))
   sizes =
       length-append (occupant m.running) (away m.runners ++ (readies m ++ waiters m))
       ∙ ap (λ n. length (occupant m.running) + n) (
@@ -154,10 +154,10 @@ module _ (m : Tables) (g : Shape m) where
       )
 
   -- who runs leaves room in all lines, and one who waits in the ready lines
-  pub room_beside : m.running < base_slots → m.nhigh + m.nlow + m.nwaits < base_slots
+  pub room_beside : m.running < base_slots → m.high.count + m.low.count + m.waits.count < base_slots
   room_beside h = omega (arith, few, sizes, ap length (occupant_some m.running h))
 
-  pub room_both : m.nhigh + m.nlow + m.nwaits ≤ base_slots
+  pub room_both : m.high.count + m.low.count + m.waits.count ≤ base_slots
   room_both = omega (arith, few, sizes)
 
   -- the living of a customer, slot by slot

@@ -8,7 +8,8 @@ use Rattle.rules.specs.Numbers.{base_slots}
 use Rattle.rules.specs.Machine as book
 use Rattle.rules.specs.Machine.{Process, Waiter, with_places, at, line, wake_all}
 use Rattle.rules.specs.Answers.{mask}
-use Rattle.lines.specs.Lines.{InSlots, occ, marked, alive, joining, kept, joined, struck, tally}
+use Rattle.lines.specs.Lines.{InSlots, occ, marked, alive, joining, struck, tally}
+use Rattle.lines.specs.Queues.{longer, only}
 use Rattle.lines.proofs.Occ.{occ_keep, sum_marked}
 use Rattle.lines.proofs.Marks.{get_or_struck, length_struck}
 use Rattle.lines.proofs.Laws.{line_size, keep_le, kept_view, kept_line, slots_keep}
@@ -24,7 +25,7 @@ use Rattle.tables.proofs.Moves.{put_waits, moved_shape}
 
 -- the machine with the marked of the waiting taken out, and then made ready
 abbrev pub left_over : Tables → List Bool → Tables
-left_over m ds = put_waits (kept (alive ds) m.waits m.nwaits) (length (those (alive ds) (waiters m))) (struck ds m.lines) m
+left_over m ds = put_waits (only (alive ds) m.waits) (struck ds m.lines) m
 
 abbrev pub ticked : Tables → List Bool → Tables
 ticked m ds = lined_up (those (marked ds) (waiters m)) (left_over m ds)
@@ -37,14 +38,14 @@ module _ (m : Tables) (g : Shape m) (ds : List Bool) (is : (s : ℕ) → s < bas
   abbrev r : Tables
   r = ticked m ds
 
-  sizes : length (those (alive ds) (waiters m)) + length (those (marked ds) (waiters m)) ≡ m.nwaits
+  sizes : length (those (alive ds) (waiters m)) + length (those (marked ds) (waiters m)) ≡ m.waits.count
   sizes = part_sizes (marked ds) (waiters m) ∙ line_size g.waits_line
 
-  pub tick_room : m.nhigh + m.nlow + length (those (marked ds) (waiters m)) ≤ base_slots
+  pub tick_room : m.high.count + m.low.count + length (those (marked ds) (waiters m)) ≤ base_slots
   tick_room = omega (arith, sizes, room_both m g)
 
   stays : waiters r ≡ those (alive ds) (waiters m)
-  stays = kept_view base_slots (alive ds) m.waits m.nwaits g.waits_line
+  stays = kept_view base_slots (alive ds) m.waits.slots m.waits.count g.waits_line
 
   slots : InSlots base_slots (those (marked ds) (waiters m))
   slots = slots_keep base_slots (marked ds) (waiters m) g.waits_line.slots
@@ -104,7 +105,7 @@ module _ (m : Tables) (g : Shape m) (ds : List Bool) (is : (s : ℕ) → s < bas
         ∙ ap₂ (λ (ps : List Process) (w : List Waiter). book.joined ps (with_places (view m).running w (view m))) (sym line_now) rest_stay;
     told = mask_now;
     still = refl;
-    shape = moved_shape m g m.running m.four _ _ _ _ _ _ _ g.runner (high_lined (left_over m ds) g.high_line g.low_line (those (marked ds) (waiters m)) tick_room slots) (low_lined (left_over m ds) g.high_line g.low_line (those (marked ds) (waiters m)) tick_room slots) (kept_line base_slots (alive ds) m.waits m.nwaits g.waits_line) (length_struck ds m.lines ∙ g.lines_long)
+    shape = moved_shape m g m.running m.four _ _ _ _ g.runner (high_lined (left_over m ds) g.high_line g.low_line (those (marked ds) (waiters m)) tick_room slots) (low_lined (left_over m ds) g.high_line g.low_line (those (marked ds) (waiters m)) tick_room slots) (kept_line base_slots (alive ds) m.waits.slots m.waits.count g.waits_line) (length_struck ds m.lines ∙ g.lines_long)
         (λ x b. omega (arith, occ_seats m x, occ_seats r x, homes_now x b))
         coded_now;
   }
@@ -126,14 +127,14 @@ module _ (m : Tables) (g : Shape m) (ds : List Bool) (is : (s : ℕ) → s < bas
   up_is : (high : Bool) → up high ≡ those (own_line high m) (those (marked ds) (waiters m))
   up_is high = those_both (marked ds) (own_line high m) (waiters m)
 
-  pub up_room : (m.nhigh + length (up true) ≤ base_slots) × (m.nlow + length (up false) ≤ base_slots)
+  pub up_room : (m.high.count + length (up true) ≤ base_slots) × (m.low.count + length (up false) ≤ base_slots)
   up_room =
       let high = keep_le (own_line true m) (those (marked ds) (waiters m)) in
       let low = keep_le (own_line false m) (those (marked ds) (waiters m)) in
       (omega (arith, tick_room, ap length (up_is true), high), omega (arith, tick_room, ap length (up_is false), low))
 
   abbrev with_both : List ℕ → List ℕ → Tables
-  with_both hs ls = put_ready (joined m.high m.nhigh hs) (m.nhigh + length hs) (joined m.low m.nlow ls) (m.nlow + length ls) (left_over m ds)
+  with_both hs ls = put_ready (longer hs m.high) (longer ls m.low) (left_over m ds)
 
   pub tick_is : Ticks m (record { tables = with_both (up true) (up false); woken = tally (λ s. if marked ds s then 2 ^ s else 0) base_slots })
   tick_is =

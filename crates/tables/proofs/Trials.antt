@@ -1,5 +1,6 @@
 -- The layout as a test that computes: how a machine that is written out is shown to obey it.
 -- Assumes nothing.
+use Rattle.std.specs.Prelude.{Option, Some, None}
 use Rattle.std.proofs.Common.{◌≡◌, ℕ, zero, suc, ◌+◌, ◌-◌, ◌<◌, ◌≤◌, Bool, true, false, not, ◌&&◌, ◌||◌, eqb, ltb, leb, List, [], ◌∷◌, length, get_or, take, drop, replicate, sym, refl, ap, ◌∙◌, true≢false, arith, ltb-true, lt-ltb, eq-eqb, eqb-true, leb-true}
 use native.Mathlib.Decide.{ℕ_discrete}
 use Rattle.rules.specs.Words.{All}
@@ -73,14 +74,14 @@ line_tested q n h =
       slots = λ i b. ltb-true (get_or (take n q) i 0) base_slots (below_true (λ i. ltb (get_or (take n q) i 0) base_slots) (length (take n q)) t.1.1.1.0 i b);
     }
 
--- where the parent's entry is 0 there is none; else it is one more than a slot
-abbrev parent_test : List ℕ → ℕ → ℕ → Bool
-parent_test ids s zero = true
-parent_test ids s (suc p) = all_true (ltb p base_slots ∷ ltb 0 (get_or ids p 0) ∷ ltb (get_or ids p 0) (get_or ids s 0) ∷ [])
+-- where there is a parent it is a slot, and alive and older
+abbrev parent_test : List ℕ → ℕ → Option ℕ → Bool
+parent_test ids s None = true
+parent_test ids s (Some p) = all_true (ltb p base_slots ∷ ltb 0 (get_or ids p 0) ∷ ltb (get_or ids p 0) (get_or ids s 0) ∷ [])
 
-parent_tested : (ids : List ℕ) (s u p : ℕ) → parent_test ids s u ≡ true → u ≡ suc p → Parent ids s p
+parent_tested : (ids : List ℕ) (s : ℕ) (u : Option ℕ) (p : ℕ) → parent_test ids s u ≡ true → u ≡ Some p → Parent ids s p
 parent_tested ids s u p h e =
-    let k : parent_test ids s (suc p) ≡ true = rw e at h in
+    let k : parent_test ids s (Some p) ≡ true = rw e at h in
     let t = each_true (ltb p base_slots ∷ ltb 0 (get_or ids p 0) ∷ ltb (get_or ids p 0) (get_or ids s 0) ∷ []) k in
     record {
       slot = ltb-true p base_slots t.0;
@@ -109,7 +110,7 @@ slot_tests m s =
     ∷ leb (get_or m.lines s 0) last_code
     ∷ all_below (once_test m.ids s) base_slots
     ∷ ltb (get_or m.ids s 0) m.next
-    ∷ parent_test m.ids s (get_or m.parents s 0)
+    ∷ parent_test m.ids s (get_or m.parents s None)
     ∷ implies (eqb (get_or m.ids s 0) 0) (eqb (get_or m.priorities s 0) 0)
     ∷ implies (eqb (get_or m.ids s 0) 0) (eqb (get_or m.handles s 0) 0)
     ∷ implies (eqb (get_or m.ids s 0) 0) (eqb (get_or m.times s 0) 0)
@@ -124,16 +125,15 @@ machine_tests m =
     ∷ eqb (length m.handles) base_slots
     ∷ eqb (length m.times) base_slots
     ∷ eqb (length m.lines) base_slots
-    ∷ all_true (line_tests m.high m.nhigh)
-    ∷ all_true (line_tests m.waits m.nwaits)
+    ∷ all_true (line_tests m.high.slots m.high.count)
+    ∷ all_true (line_tests m.waits.slots m.waits.count)
     ∷ leb m.running base_slots
-    ∷ leb m.status 2
     ∷ eqb (m.idle + tally (entry m.idles) most_processors + m.ended + tally (entry m.times) base_slots) m.total
     ∷ leb m.total time_limit
     ∷ all_below (λ s. all_true (slot_tests m s)) base_slots
     ∷ eqb m.taken (mask_of_taken base_slots m.ids)
     ∷ eqb (length m.customers) base_slots
-    ∷ all_true (line_tests m.low m.nlow)
+    ∷ all_true (line_tests m.low.slots m.low.count)
     ∷ []
 
 -- the layout of the processors' seats
@@ -144,7 +144,7 @@ pub record Benched (m : Tables) : Type 0 where
   pub some_processor : 1 ≤ m.processors
   pub few_processors : m.processors ≤ most_processors
   pub in_seats : InSeats m.runners
-  pub no_runner : (k : ℕ) → m.processors ≤ k → get_or m.runners k 0 ≡ 0
+  pub no_runner : (k : ℕ) → m.processors ≤ k → get_or m.runners k None ≡ None
   pub no_last : (k : ℕ) → m.processors ≤ k → get_or m.lasts k 0 ≡ 0
   pub no_idle : (k : ℕ) → m.processors ≤ k → get_or m.idles k 0 ≡ 0
 
@@ -158,35 +158,34 @@ module _ (m : Tables) (sems : length m.sems ≡ base_sems) (ceilings : length m.
   whole = each_true (machine_tests m) holds
 
   at_slot : (s : ℕ) → s < base_slots → All (λ b. b ≡ true) (slot_tests m s)
-  at_slot s b = each_true (slot_tests m s) (below_true (λ s. all_true (slot_tests m s)) base_slots whole.1.1.1.1.1.1.1.1.1.1.1.1.0 s b)
+  at_slot s b = each_true (slot_tests m s) (below_true (λ s. all_true (slot_tests m s)) base_slots whole.1.1.1.1.1.1.1.1.1.1.1.0 s b)
 
   pub tested : Shape m
   tested = record {
     ids_long = eqb-true (length m.ids) base_slots whole.0;
-    taken_mask = eqb-true m.taken (mask_of_taken base_slots m.ids) whole.1.1.1.1.1.1.1.1.1.1.1.1.1.0;
+    taken_mask = eqb-true m.taken (mask_of_taken base_slots m.ids) whole.1.1.1.1.1.1.1.1.1.1.1.1.0;
     parents_long = eqb-true (length m.parents) base_slots whole.1.0;
-    customers_long = eqb-true (length m.customers) base_slots whole.1.1.1.1.1.1.1.1.1.1.1.1.1.1.0;
+    customers_long = eqb-true (length m.customers) base_slots whole.1.1.1.1.1.1.1.1.1.1.1.1.1.0;
     priorities_long = eqb-true (length m.priorities) base_slots whole.1.1.0;
     handles_long = eqb-true (length m.handles) base_slots whole.1.1.1.0;
     times_long = eqb-true (length m.times) base_slots whole.1.1.1.1.0;
     lines_long = eqb-true (length m.lines) base_slots whole.1.1.1.1.1.0;
     sems_long = sems;
     ceilings_long = ceilings;
-    high_line = line_tested m.high m.nhigh whole.1.1.1.1.1.1.0;
-    low_line = line_tested m.low m.nlow whole.1.1.1.1.1.1.1.1.1.1.1.1.1.1.1.0;
-    waits_line = line_tested m.waits m.nwaits whole.1.1.1.1.1.1.1.0;
+    high_line = line_tested m.high.slots m.high.count whole.1.1.1.1.1.1.0;
+    low_line = line_tested m.low.slots m.low.count whole.1.1.1.1.1.1.1.1.1.1.1.1.1.1.0;
+    waits_line = line_tested m.waits.slots m.waits.count whole.1.1.1.1.1.1.1.0;
     runner = leb-true m.running base_slots whole.1.1.1.1.1.1.1.1.0;
     homes = λ s b. eqb-true (occ s (seats m)) (live (get_or m.ids s 0)) (at_slot s b).0;
     coded = λ s b. eqb-true (live (get_or m.lines s 0)) (occ s (waiters m)) (at_slot s b).1.0;
     codes = λ s b. leb-true (get_or m.lines s 0) last_code (at_slot s b).1.1.0;
     once = λ s t b c. once_tested m.ids s t (below_true (once_test m.ids s) base_slots (at_slot s b).1.1.1.0 t c);
     issued = λ s b. ltb-true (get_or m.ids s 0) m.next (at_slot s b).1.1.1.1.0;
-    parent = λ s p b. parent_tested m.ids s (get_or m.parents s 0) p (at_slot s b).1.1.1.1.1.0;
+    parent = λ s p b. parent_tested m.ids s (get_or m.parents s None) p (at_slot s b).1.1.1.1.1.0;
     no_customer = λ s b. blank_tested (get_or m.ids s 0) (get_or m.customers s 0) (at_slot s b).1.1.1.1.1.1.1.1.1.0;
     no_priority = λ s b. blank_tested (get_or m.ids s 0) (get_or m.priorities s 0) (at_slot s b).1.1.1.1.1.1.0;
     no_handle = λ s b. blank_tested (get_or m.ids s 0) (get_or m.handles s 0) (at_slot s b).1.1.1.1.1.1.1.0;
     no_time = λ s b. blank_tested (get_or m.ids s 0) (get_or m.times s 0) (at_slot s b).1.1.1.1.1.1.1.1.0;
-    status = leb-true m.status 2 whole.1.1.1.1.1.1.1.1.1.0;
     runners_long = bench.runners_long;
     lasts_long = bench.lasts_long;
     idles_long = bench.idles_long;
@@ -196,8 +195,8 @@ module _ (m : Tables) (sems : length m.sems ≡ base_sems) (ceilings : length m.
     no_runner = bench.no_runner;
     no_last = bench.no_last;
     no_idle = bench.no_idle;
-    spent = eqb-true (m.idle + tally (entry m.idles) most_processors + m.ended + tally (entry m.times) base_slots) m.total whole.1.1.1.1.1.1.1.1.1.1.0;
-    within = leb-true m.total time_limit whole.1.1.1.1.1.1.1.1.1.1.1.0;
+    spent = eqb-true (m.idle + tally (entry m.idles) most_processors + m.ended + tally (entry m.times) base_slots) m.total whole.1.1.1.1.1.1.1.1.1.0;
+    within = leb-true m.total time_limit whole.1.1.1.1.1.1.1.1.1.1.0;
   }
 
 -- to unfold this is to unfold every test

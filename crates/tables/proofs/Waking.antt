@@ -1,14 +1,15 @@
 -- The first in a line becomes ready, over machines alone.
 -- Assumes nothing.
-use Rattle.std.proofs.Common.{◌≡◌, ℕ, ◌+◌, ◌-◌, ◌^◌, ◌<◌, ◌≤◌, Bool, List, [], ◌∷◌, map, length, get_or, set, sym, refl, ap, ◌∙◌, ap₂, append-nil, arith, length-set, get_or-set_other, get_or-take, get_or-set_same}
+use Rattle.std.proofs.Common.{◌≡◌, ℕ, ◌+◌, ◌^◌, ◌<◌, ◌≤◌, Bool, List, [], ◌∷◌, map, length, get_or, set, sym, refl, ap, ◌∙◌, ap₂, append-nil, arith, length-set, get_or-set_other, get_or-take, get_or-set_same}
 use native.Mathlib.Decide.{ℕ_discrete}
 use Rattle.rules.specs.Words.{those, front, without}
 use Rattle.rules.specs.Numbers.{base_slots}
 use Rattle.rules.specs.Machine as book
 use Rattle.rules.specs.Machine.{Process, Waiter, with_places, with_ready, at, line, wake}
 use Rattle.rules.specs.Answers.{mask}
-use Rattle.lines.specs.Lines.{InSlots, occ, one, taken_out, removed, first_where, in_lines}
-use Rattle.lines.specs.declared.Found.TheVariants.{At, Nothing}
+use Rattle.lines.specs.Lines.{InSlots, occ, one, taken_out, first_where, in_lines}
+use Rattle.std.specs.Prelude.{Some, None}
+use Rattle.lines.specs.Queues as queue
 use Rattle.lines.proofs.Occ.{one_same, one_other, occ_taken_out}
 use Rattle.lines.proofs.Laws.{line_size, removed_view, removed_line, first_in}
 use Rattle.lines.proofs.Bridge.{without_map, without_same, front_map, occ_at, map_apart, found_front, found_without, found_nobody, found_none}
@@ -23,10 +24,10 @@ use Rattle.tables.proofs.Moves.{put_waits, moved_shape, one_slot, occ_alone}
 
 -- the machine with place i of the waiting taken out, and then made ready
 abbrev pub drawn : Tables → ℕ → Tables
-drawn m i = put_waits (removed m.waits m.nwaits i) (m.nwaits - 1) (set m.lines (get_or m.waits i 0) 0) m
+drawn m i = put_waits (queue.without i m.waits) (set m.lines (get_or m.waits.slots i 0) 0) m
 
 abbrev pub awake : Tables → ℕ → Tables
-awake m i = lined_up (get_or m.waits i 0 ∷ []) (drawn m i)
+awake m i = lined_up (get_or m.waits.slots i 0 ∷ []) (drawn m i)
 
 module _ (m : Tables) (g : Shape m) (c : ℕ) (lo : 1 ≤ c) (hi : c ≤ last_code) where
   abbrev in_line : ℕ → Bool
@@ -41,7 +42,7 @@ module _ (m : Tables) (g : Shape m) (c : ℕ) (lo : 1 ≤ c) (hi : c ≤ last_co
       without_map (at (decode c)) (waiter m) (waiters m)
       ∙ ap (map (waiter m)) (without_same (Waits m) (λ s. at (decode c) (waiter m s)) in_line waits_at (waiters m) (waiting m g))
 
-  pub wake_none : first_where in_line 0 (waiters m) ≡ Nothing → Wakes (decode c) m (record { tables = m; woken = 0 })
+  pub wake_none : first_where in_line 0 (waiters m) ≡ None → Wakes (decode c) m (record { tables = m; woken = 0 })
   unfolding wake mask
   wake_none e =
       let none : line (decode c) (view m) ≡ [] = line_of m g (decode c) in_line waits_at ∙ ap (map (row m)) (found_none in_line (waiters m) 0 e) in
@@ -56,21 +57,21 @@ module _ (m : Tables) (g : Shape m) (c : ℕ) (lo : 1 ≤ c) (hi : c ≤ last_co
         shape = g;
       }
 
-  module _ (i : ℕ) (e : first_where in_line 0 (waiters m) ≡ At i) where
+  module _ (i : ℕ) (e : first_where in_line 0 (waiters m) ≡ Some i) where
     abbrev s : ℕ
-    s = get_or m.waits i 0
+    s = get_or m.waits.slots i 0
 
     abbrev r : Tables
     r = awake m i
 
-    pub found_place : i < m.nwaits
+    pub found_place : i < m.waits.count
     found_place = omega (arith, first_in in_line (waiters m) 0 i e, line_size g.waits_line)
 
     long : i < length (waiters m)
     long = omega (arith, found_place, line_size g.waits_line)
 
     read : get_or (waiters m) i 0 ≡ s
-    read = get_or-take m.nwaits m.waits i 0 found_place
+    read = get_or-take m.waits.count m.waits.slots i 0 found_place
 
     here : 1 ≤ occ s (waiters m)
     here = rw read at (occ_at (waiters m) i long)
@@ -82,7 +83,7 @@ module _ (m : Tables) (g : Shape m) (c : ℕ) (lo : 1 ≤ c) (hi : c ≤ last_co
     found_slot = waits_here.seat.slot
 
     -- whoever waits is not ready as well: there is room
-    pub wake_room : m.nhigh + m.nlow + 1 ≤ base_slots
+    pub wake_room : m.high.count + m.low.count + 1 ≤ base_slots
     wake_room = omega (arith, room_both m g, found_place)
 
     abbrev d : Tables
@@ -92,7 +93,7 @@ module _ (m : Tables) (g : Shape m) (c : ℕ) (lo : 1 ≤ c) (hi : c ≤ last_co
     slots = one_slot s found_slot
 
     leaves : waiters r ≡ taken_out i (waiters m)
-    leaves = removed_view base_slots m.waits m.nwaits i g.waits_line found_place
+    leaves = removed_view base_slots m.waits.slots m.waits.count i g.waits_line found_place
 
     counted : (x : ℕ) → occ x (waiters r) + one s x ≡ occ x (waiters m)
     counted x = omega (arith, ap (occ x) leaves, occ_taken_out x i (waiters m) long, ap (λ y. one y x) read)
@@ -130,7 +131,7 @@ module _ (m : Tables) (g : Shape m) (c : ℕ) (lo : 1 ≤ c) (hi : c ≤ last_co
           ∙ ap₂ (λ (ps : List Process) (w : List Waiter). book.joined ps (with_places (view m).running w (view m))) (sym first_one) rest_stay;
       told = sym (ap mask first_one ∙ add0 (2 ^ s));
       still = refl;
-      shape = moved_shape m g m.running m.four _ _ _ _ _ _ _ g.runner (high_lined d g.high_line g.low_line (s ∷ []) wake_room slots) (low_lined d g.high_line g.low_line (s ∷ []) wake_room slots) (removed_line base_slots m.waits m.nwaits i g.waits_line found_place) (simp length-set g.lines_long)
+      shape = moved_shape m g m.running m.four _ _ _ _ g.runner (high_lined d g.high_line g.low_line (s ∷ []) wake_room slots) (low_lined d g.high_line g.low_line (s ∷ []) wake_room slots) (removed_line base_slots m.waits.slots m.waits.count i g.waits_line found_place) (simp length-set g.lines_long)
           (λ x b. omega (arith, occ_seats m x, occ_seats r x, occ_lined d g.high_line g.low_line (s ∷ []) wake_room x, occ_alone x s, counted x))
           (λ x b. coded_now x b (ℕ_discrete x s));
     }

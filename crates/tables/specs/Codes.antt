@@ -1,9 +1,8 @@
--- How a waiting line and a status are written in a byte: the one table of codes.
-use Rattle.std.specs.Prelude.{ℕ, zero, suc, ◌+◌, ◌-◌, nat_le, nat_lt, if◌then◌else◌}
+-- How a waiting line is written in a byte: the one table of codes.
+use Rattle.std.specs.Prelude.{ℕ, ◌+◌, ◌-◌, nat_le, nat_lt, if◌then◌else◌}
 use Rattle.rules.specs.declared.Line.{Line}
 use Rattle.rules.specs.declared.Line.TheVariants.{Semaphore, Device, PseudoClock}
 use Rattle.rules.specs.Numbers.{base_sems, sub_devices}
-use Rattle.rules.specs.Machine.{Status, On, Halted, Panicked}
 
 -- 0 is no line; 1 to 32 are the semaphores', 33 to 80 the sub-devices', 81 the pseudo-clock's
 abbrev pub last_code : ℕ
@@ -18,9 +17,3 @@ unfoldable pub decode : ℕ → Line
 decode c =
     if nat_le c base_sems then Semaphore (c - 1)
     else (if nat_lt c last_code then Device (c - (base_sems + 1)) else PseudoClock)
-
--- 0 on, 1 halted, 2 panicked
-abbrev pub status_of : ℕ → Status
-status_of zero = On
-status_of (suc zero) = Halted
-status_of (suc (suc n)) = Panicked

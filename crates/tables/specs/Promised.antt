@@ -1,5 +1,5 @@
 -- What each part of the desk promises: the rule book's change or outcome of the machine that it stands for.
-use Rattle.std.specs.Prelude.{◌≡◌, ℕ, ◌+◌, Bool, true, false, List, length, slice_index}
+use Rattle.std.specs.Prelude.{◌≡◌, ℕ, Bool, true, false, List, slice_index}
 use Rattle.rules.specs.declared.Answer.{Answer}
 use Rattle.rules.specs.declared.Action.TheVariants.{Run}
 use Rattle.rules.specs.declared.Line.{Line}
@@ -10,7 +10,8 @@ use Rattle.rules.specs.Machine as book
 use Rattle.rules.specs.Machine.{line, wake, wake_all, kill, family_of}
 use Rattle.rules.specs.Answers.{Outcome, doing, mask, left_idle}
 use Rattle.choices.specs.Lines.{of_line}
-use Rattle.lines.specs.Lines.{joined}
+use Rattle.lines.specs.declared.queue.Queue.{Queue}
+use Rattle.lines.specs.Queues.{longer}
 use Rattle.tables.specs.declared.Tables.{Tables}
 use Rattle.tables.specs.declared.Woken.{Woken}
 use Rattle.tables.specs.declared.Killed.{Killed}
@@ -21,11 +22,11 @@ use Rattle.tables.specs.View.{view, Shape}
 -- ── Changes of the tables alone, in the midst of a move ──
 
 -- the same tables, but for the ready lines; but for who runs here and the count of four
-abbrev pub put_ready : List ℕ → ℕ → List ℕ → ℕ → Tables → Tables
-put_ready h nh l nl m = record { ids = m.ids; taken = m.taken; parents = m.parents; customers = m.customers; priorities = m.priorities; handles = m.handles; times = m.times; lines = m.lines; high = h; nhigh = nh; low = l; nlow = nl; four = m.four; waits = m.waits; nwaits = m.nwaits; running = m.running; sems = m.sems; ceilings = m.ceilings; next = m.next; status = m.status; last = m.last; total = m.total; idle = m.idle; ended = m.ended; runners = m.runners; lasts = m.lasts; idles = m.idles; processors = m.processors }
+abbrev pub put_ready : Queue → Queue → Tables → Tables
+put_ready h l m = record { ids = m.ids; taken = m.taken; parents = m.parents; customers = m.customers; priorities = m.priorities; handles = m.handles; times = m.times; lines = m.lines; high = h; low = l; four = m.four; waits = m.waits; running = m.running; sems = m.sems; ceilings = m.ceilings; next = m.next; status = m.status; last = m.last; total = m.total; idle = m.idle; ended = m.ended; runners = m.runners; lasts = m.lasts; idles = m.idles; processors = m.processors }
 
 abbrev pub put_running : ℕ → ℕ → Tables → Tables
-put_running r n m = record { ids = m.ids; taken = m.taken; parents = m.parents; customers = m.customers; priorities = m.priorities; handles = m.handles; times = m.times; lines = m.lines; high = m.high; nhigh = m.nhigh; low = m.low; nlow = m.nlow; four = n; waits = m.waits; nwaits = m.nwaits; running = r; sems = m.sems; ceilings = m.ceilings; next = m.next; status = m.status; last = m.last; total = m.total; idle = m.idle; ended = m.ended; runners = m.runners; lasts = m.lasts; idles = m.idles; processors = m.processors }
+put_running r n m = record { ids = m.ids; taken = m.taken; parents = m.parents; customers = m.customers; priorities = m.priorities; handles = m.handles; times = m.times; lines = m.lines; high = m.high; low = m.low; four = n; waits = m.waits; running = r; sems = m.sems; ceilings = m.ceilings; next = m.next; status = m.status; last = m.last; total = m.total; idle = m.idle; ended = m.ended; runners = m.runners; lasts = m.lasts; idles = m.idles; processors = m.processors }
 
 -- whose ready line is the high one, or the low one, by slot
 abbrev pub own_line : Bool → Tables → ℕ → Bool
@@ -33,9 +34,7 @@ own_line high m s = of_line high (slice_index m.priorities s)
 
 -- these join their ready lines, each at the end of its own, in their order
 abbrev pub lined_up : List ℕ → Tables → Tables
-lined_up us m =
-    put_ready (joined m.high m.nhigh (those (own_line true m) us)) (m.nhigh + length (those (own_line true m) us))
-    (joined m.low m.nlow (those (own_line false m) us)) (m.nlow + length (those (own_line false m) us)) m
+lined_up us m = put_ready (longer (those (own_line true m) us) m.high) (longer (those (own_line false m) us) m.low) m
 
 -- who was chosen runs, and the choice is counted
 abbrev pub run_next : ℕ → ℕ → Answer → Tables → Settled

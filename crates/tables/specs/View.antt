@@ -1,14 +1,15 @@
 -- The machine of the rule book that the tables stand for, and the rule that they obey.
-use Rattle.std.specs.Prelude.{◌≡◌, ℕ, zero, suc, ◌+◌, ◌<◌, ◌≤◌, List, [], ◌∷◌, ◌++◌, map, length, take, ◌==◌, nat_lt, slice_index, if◌then◌else◌}
+use Rattle.std.specs.Prelude.{◌≡◌, ℕ, suc, ◌+◌, ◌<◌, ◌≤◌, List, [], ◌∷◌, ◌++◌, map, length, ◌==◌, nat_lt, slice_index, get_or, Option, Some, None, if◌then◌else◌}
 use Rattle.rules.specs.Machine as book
 use Rattle.rules.specs.Machine.{Process, Waiter, Seat}
 use Rattle.rules.specs.Numbers.{base_slots, base_sems, base_customers, most_processors, time_limit}
 use Rattle.lines.specs.Lines.{Line, occ, entry, tally, mask_of_taken}
+use Rattle.lines.specs.Queues.{items}
 use Rattle.rules.specs.Tables as rule
 use Rattle.kin.specs.Families.{elders, Kin}
 use Rattle.seats.specs.Seats.{table, held_slot, seat, InSeats}
 use Rattle.tables.specs.declared.Tables.{Tables}
-use Rattle.tables.specs.Codes.{decode, last_code, status_of}
+use Rattle.tables.specs.Codes.{decode, last_code}
 
 -- ── What a machine stands for ──
 
@@ -32,17 +33,17 @@ abbrev pub occupant : ℕ → List ℕ
 occupant r = if nat_lt r base_slots then r ∷ [] else []
 
 -- the slots that run on the other processors, by their numbers
-abbrev pub away : List ℕ → List ℕ
+abbrev pub away : List (Option ℕ) → List ℕ
 away [] = []
 away (c ∷ cs) = held_slot c ++ away cs
 
--- who runs as a seat has it, a slot and one more, and as it is here
-abbrev pub code_of : ℕ → ℕ
-code_of r = if nat_lt r base_slots then suc r else 0
+-- who runs as a seat has it, a slot or none, and as it is here
+abbrev pub seated : ℕ → Option ℕ
+seated r = if nat_lt r base_slots then Some r else None
 
-abbrev pub slot_of : ℕ → ℕ
-slot_of zero = base_slots
-slot_of (suc s) = s
+abbrev pub slot_of : Option ℕ → ℕ
+slot_of None = base_slots
+slot_of (Some s) = s
 
 -- the readings of the processors' seats at a start: processor 0 is here, and so many have the start's
 unfoldable pub readings_of : ℕ → ℕ → List ℕ
@@ -50,20 +51,20 @@ readings_of now n = 0 ∷ table 7 (λ k. if nat_lt (suc k) n then now else 0)
 
 -- the seat of another processor
 abbrev pub seat_at : Tables → ℕ → Seat
-seat_at m k = seat (row m) (slice_index m.runners k) (slice_index m.lasts k) (slice_index m.idles k)
+seat_at m k = seat (row m) (get_or m.runners k None) (slice_index m.lasts k) (slice_index m.idles k)
 
 -- the high and the low ready line; who is ready, in either
 abbrev pub highs : Tables → List ℕ
-highs m = take m.nhigh m.high
+highs m = items m.high
 
 abbrev pub lows : Tables → List ℕ
-lows m = take m.nlow m.low
+lows m = items m.low
 
 abbrev pub readies : Tables → List ℕ
 readies m = highs m ++ lows m
 
 abbrev pub waiters : Tables → List ℕ
-waiters m = take m.nwaits m.waits
+waiters m = items m.waits
 
 -- the slots of the living: who runs, here and on the other processors, the ready lines, those who wait
 abbrev pub seats : Tables → List ℕ
@@ -80,7 +81,7 @@ view m = record {
   waiting = map (waiter m) (waiters m);
   sems = m.sems;
   next = m.next;
-  status = status_of m.status;
+  status = m.status;
   last = m.last;
   total = m.total;
   idle = m.idle;
@@ -108,9 +109,9 @@ pub record Shape (m : Tables) : Type 0 where
   pub lines_long : length m.lines ≡ base_slots
   pub sems_long : length m.sems ≡ base_sems
   pub ceilings_long : length m.ceilings ≡ base_customers
-  pub high_line : Line base_slots m.high m.nhigh
-  pub low_line : Line base_slots m.low m.nlow
-  pub waits_line : Line base_slots m.waits m.nwaits
+  pub high_line : Line base_slots m.high.slots m.high.count
+  pub low_line : Line base_slots m.low.slots m.low.count
+  pub waits_line : Line base_slots m.waits.slots m.waits.count
   pub runner : m.running ≤ base_slots
   pub homes : (s : ℕ) → s < base_slots → occ s (seats m) ≡ live (slice_index m.ids s)
   pub coded : (s : ℕ) → s < base_slots → live (slice_index m.lines s) ≡ occ s (waiters m)
@@ -122,14 +123,13 @@ pub record Shape (m : Tables) : Type 0 where
   pub no_priority : (s : ℕ) → s < base_slots → slice_index m.ids s ≡ 0 → slice_index m.priorities s ≡ 0
   pub no_handle : (s : ℕ) → s < base_slots → slice_index m.ids s ≡ 0 → slice_index m.handles s ≡ 0
   pub no_time : (s : ℕ) → s < base_slots → slice_index m.ids s ≡ 0 → slice_index m.times s ≡ 0
-  pub status : m.status ≤ 2
   pub runners_long : length m.runners ≡ most_processors
   pub lasts_long : length m.lasts ≡ most_processors
   pub idles_long : length m.idles ≡ most_processors
   pub some_processor : 1 ≤ m.processors
   pub few_processors : m.processors ≤ most_processors
   pub in_seats : InSeats m.runners
-  pub no_runner : (k : ℕ) → m.processors ≤ k → slice_index m.runners k ≡ 0
+  pub no_runner : (k : ℕ) → m.processors ≤ k → get_or m.runners k None ≡ None
   pub no_last : (k : ℕ) → m.processors ≤ k → slice_index m.lasts k ≡ 0
   pub no_idle : (k : ℕ) → m.processors ≤ k → slice_index m.idles k ≡ 0
   pub spent : m.idle + tally (entry m.idles) most_processors + m.ended + tally (entry m.times) base_slots ≡ m.total

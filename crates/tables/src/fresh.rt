@@ -4,20 +4,17 @@ ghost use Rattle.rules.specs.Numbers.{base_slots, most_processors};
 ghost use Rattle.rules.specs.Machine.{fresh};
 ghost use Rattle.tables.specs.View.{readings_of, view, Shape};
 
-use crate::{ON, Tables};
-use rules::{CUSTOMERS, PROCESSORS, SEMAPHORES, SLOTS};
+use crate::Tables;
+use lines::Queue;
+use rules::{CUSTOMERS, PROCESSORS, SEMAPHORES, SLOTS, Status};
 
 // The readings of the processors' seats: the one of processor 0 is here, the others' are the start's.
 fn readings(clock: u32, processors: usize) -> [u32; PROCESSORS]
     requires { (1 ≤ processors) × (processors ≤ most_processors) }
     ensures { result ≡ readings_of clock processors }
 {
-    let mut lasts = [0u32; PROCESSORS];
-    let mut k = 1;
-    while k < processors {
-        lasts[k] = clock;
-        k += 1;
-    }
+    let mut lasts = [0; PROCESSORS];
+    lasts[1..processors].fill(clock);
     lasts
 }
 
@@ -37,34 +34,31 @@ impl Tables {
         let mut ids = [0u32; SLOTS];
         ids[0] = 1;
         Tables {
-            ids: ids,
+            ids,
             taken: 1,
-            parents: [0; SLOTS],
+            parents: [None; SLOTS],
             customers: [0; SLOTS],
             priorities: [0; SLOTS],
             handles: [0; SLOTS],
             times: [0; SLOTS],
             lines: [0; SLOTS],
-            high: [0; SLOTS],
-            nhigh: 0,
-            low: [0; SLOTS],
-            nlow: 0,
+            high: Queue::new(),
+            low: Queue::new(),
             four: 0,
-            waits: [0; SLOTS],
-            nwaits: 0,
+            waits: Queue::new(),
             running: 0,
             sems: values,
-            ceilings: ceilings,
+            ceilings,
             next: 2,
-            status: ON,
+            status: Status::On,
             last: clock,
             total: 0,
             idle: 0,
             ended: 0,
-            runners: [0; PROCESSORS],
-            lasts: lasts,
+            runners: [None; PROCESSORS],
+            lasts,
             idles: [0; PROCESSORS],
-            processors: processors,
+            processors,
         }
     }
 }

@@ -8,8 +8,8 @@ ghost use Rattle.tables.specs.Promised.{Comes, Kills};
 use crate::{Killed, Settled, Tables};
 use answers::{bare, does, ends};
 use kin::family;
-use lines::{drop_marked, mask, spared, strike, strike_bytes, strike_times, toll};
-use rules::{Action, Cause, Result};
+use lines::{mask, spared, strike, toll};
+use rules::{Action, Cause};
 use seats::leaving;
 
 impl Tables {
@@ -22,27 +22,23 @@ impl Tables {
         let doomed = family(&self.ids, &self.parents, id);
         let bits = mask(&doomed);
         let time = toll(&self.times, &doomed);
-        self.ended = self.ended + time;
-        self.taken = self.taken - bits;
+        self.ended += time;
+        self.taken -= bits;
         let at = self.running;
         self.running = spared(at, &doomed);
-        strike(&mut self.ids, &doomed);
-        strike_bytes(&mut self.parents, &doomed);
-        strike_bytes(&mut self.customers, &doomed);
-        strike(&mut self.priorities, &doomed);
-        strike(&mut self.handles, &doomed);
-        strike_times(&mut self.times, &doomed);
-        strike_bytes(&mut self.lines, &doomed);
-        let h = self.nhigh;
-        self.nhigh = drop_marked(&mut self.high, h, &doomed);
-        let l = self.nlow;
-        self.nlow = drop_marked(&mut self.low, l, &doomed);
-        let w = self.nwaits;
-        let j = drop_marked(&mut self.waits, w, &doomed);
-        self.nwaits = j;
+        strike(&mut self.ids, &doomed, 0);
+        strike(&mut self.parents, &doomed, None);
+        strike(&mut self.customers, &doomed, 0);
+        strike(&mut self.priorities, &doomed, 0);
+        strike(&mut self.handles, &doomed, 0);
+        strike(&mut self.times, &doomed, 0);
+        strike(&mut self.lines, &doomed, 0);
+        self.high.drop_marked(&doomed);
+        self.low.drop_marked(&doomed);
+        self.waits.drop_marked(&doomed);
         let left = leaving(&self.runners, &doomed);
         let idle = seats::mask(&left);
-        seats::strike(&mut self.runners, &left);
+        strike(&mut self.runners, &left, None);
         Killed {
             tables: self,
             ended: bits,
@@ -61,7 +57,7 @@ impl Tables {
             let id = self.ids[at];
             let k = self.kill(id);
             let m = k.tables;
-            let x = ends(Result::Silent, k.ended, k.idled);
+            let x = ends(None, k.ended, k.idled);
             return m.schedule(x);
         }
         let slot = at as u8;

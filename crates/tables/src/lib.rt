@@ -4,7 +4,8 @@
 // private.
 #![tactic(auto)]
 
-use rules::{Answer, CUSTOMERS, DEVICES, PROCESSORS, SEMAPHORES, SLOTS};
+use lines::Queue;
+use rules::{Answer, CUSTOMERS, DEVICES, PROCESSORS, SEMAPHORES, SLOTS, Status};
 
 mod charges;
 mod fresh;
@@ -21,46 +22,35 @@ pub const FIRST_DEVICE: u8 = LAST_SEMAPHORE + 1;
 
 pub const CLOCK: u8 = LAST_SEMAPHORE + DEVICES as u8 + 1;
 
-// Codes of the status.
-pub const ON: u8 = 0;
-
-pub const HALTED: u8 = 1;
-
-pub const PANICKED: u8 = 2;
-
-// By slot: ids (0 is free), with the taken slots as a mask beside them; the parent's slot and one more (0 is none),
-// customers, priorities, handles, times, and the code of the line that a slot waits in (0 is none). The high and the
-// low ready line and the waiting, slots in order, each with its length; the count of four. By customer: how many it may
-// have alive. Of the processor whose event is in hand: who runs (the number of slots stands for nobody), the last clock
-// reading, idle time. The same by processor, who runs being its slot and one more (0 is nobody); and how many
-// processors there are. Free rows and unused places are zero.
+// By slot: ids (0 is free), with the taken slots as a mask beside them; the parent's slot, customers, priorities,
+// handles, times, and the code of the line that a slot waits in (0 is none). The high and the low ready line and the
+// waiting, slots in order; the count of four. By customer: how many it may have alive. Of the processor whose event is in
+// hand: who runs (the number of slots stands for nobody), the last clock reading, idle time. The same by processor, who
+// runs being its slot, or none; and how many processors there are. Free rows and unused places are zero, or none.
 #[derive(Clone, Copy)]
 pub struct Tables {
     pub ids: [u32; SLOTS],
     pub taken: u64,
-    pub parents: [u8; SLOTS],
+    pub parents: [Option<u8>; SLOTS],
     pub customers: [u8; SLOTS],
     pub priorities: [u32; SLOTS],
     pub handles: [u32; SLOTS],
     pub times: [u64; SLOTS],
     pub lines: [u8; SLOTS],
-    pub high: [u8; SLOTS],
-    pub nhigh: usize,
-    pub low: [u8; SLOTS],
-    pub nlow: usize,
+    pub high: Queue,
+    pub low: Queue,
     pub four: u8,
-    pub waits: [u8; SLOTS],
-    pub nwaits: usize,
+    pub waits: Queue,
     pub running: usize,
     pub sems: [u32; SEMAPHORES],
     pub ceilings: [u16; CUSTOMERS],
     pub next: u32,
-    pub status: u8,
+    pub status: Status,
     pub last: u32,
     pub total: u64,
     pub idle: u64,
     pub ended: u64,
-    pub runners: [u8; PROCESSORS],
+    pub runners: [Option<u8>; PROCESSORS],
     pub lasts: [u32; PROCESSORS],
     pub idles: [u64; PROCESSORS],
     pub processors: usize,

@@ -9,25 +9,20 @@ ghost use Rattle.tables.specs.Promised.{lined_up, Comes, Wakes, Ticks};
 
 use crate::{CLOCK, Settled, Tables, Woken};
 use choices::is_high;
-use lines::{
-    Found, append_marked, drop_marked, find_between, marks_at, mask, power, push, remove_at,
-    strike_bytes,
-};
+use lines::{marks_at, mask, power, strike};
 use rules::{Answer, SLOTS};
 
 impl Tables {
     // 'In 01 "the ready line" becomes the line of the process's own priority': a slot joins it, at its end.
     pub fn joins(mut self, slot: u8) -> Tables
-        requires { (slot < base_slots) × (self.nhigh < base_slots) × (self.nlow < base_slots) }
+        requires { (slot < base_slots) × (self.high.count < base_slots) × (self.low.count < base_slots) }
         ensures { result ≡ lined_up (slot ∷ []) self }
     {
         if is_high(self.priorities[slot as usize]) {
-            let n = self.nhigh;
-            self.nhigh = push(&mut self.high, n, slot);
+            self.high.push(slot);
             return self;
         }
-        let n = self.nlow;
-        self.nlow = push(&mut self.low, n, slot);
+        self.low.push(slot);
         self
     }
 
@@ -48,8 +43,7 @@ impl Tables {
         ensures { Comes (schedule x (block (decode code) (view self))) result }
     {
         let at = self.running;
-        let n = self.nwaits;
-        self.nwaits = push(&mut self.waits, n, at as u8);
+        self.waits.push(at as u8);
         self.lines[at] = code;
         self.running = SLOTS;
         self.schedule(x)
@@ -60,17 +54,14 @@ impl Tables {
         requires { Shape self × (1 ≤ code) × (code ≤ last_code) }
         ensures { Wakes (decode code) self result }
     {
-        let w = self.nwaits;
-        let Found::At(i) = find_between(&self.waits, w, &self.lines, code, code) else {
+        let Some(i) = self.waits.find_between(&self.lines, code, code) else {
             return Woken {
                 tables: self,
                 woken: 0,
             };
         };
-        let slot = self.waits[i];
+        let slot = self.waits.remove(i);
         let s = slot as usize;
-        remove_at(&mut self.waits, w, i);
-        self.nwaits = w - 1;
         self.lines[s] = 0;
         let bit = power(s);
         let m = self.joins(slot);
@@ -85,17 +76,14 @@ impl Tables {
         requires { Shape self }
         ensures { Ticks self result }
     {
-        let w = self.nwaits;
         let up = marks_at(&self.lines, CLOCK);
         let bits = mask(&up);
         let old = self.waits;
         let ranks = self.priorities;
-        let h = self.nhigh;
-        self.nhigh = append_marked(&mut self.high, h, &old, w, &up, &ranks, true);
-        let l = self.nlow;
-        self.nlow = append_marked(&mut self.low, l, &old, w, &up, &ranks, false);
-        self.nwaits = drop_marked(&mut self.waits, w, &up);
-        strike_bytes(&mut self.lines, &up);
+        self.high.append_marked(&old, &up, &ranks, true);
+        self.low.append_marked(&old, &up, &ranks, false);
+        self.waits.drop_marked(&up);
+        strike(&mut self.lines, &up, 0);
         Woken {
             tables: self,
             woken: bits,

@@ -8,17 +8,16 @@ ghost use Rattle.rules.specs.Rules.{schedule, nobody_ready, carry_on, resume};
 ghost use Rattle.tables.specs.View.{view, row, Shape};
 ghost use Rattle.tables.specs.Promised.{run_next, Comes};
 
-use crate::{CLOCK, FIRST_DEVICE, HALTED, PANICKED, Settled, Tables};
+use crate::{CLOCK, FIRST_DEVICE, Settled, Tables};
 use answers::does;
 use choices::{counted, takes_low};
-use lines::{Found, find_between, remove_at};
-use rules::{Action, Answer, SLOTS};
+use rules::{Action, Answer, SLOTS, Status};
 use seats::somebody_runs;
 
 impl Tables {
     // Nobody is ready, in either line, and nobody runs here: no choice is made, and the count of four stays.
     fn nobody_ready(mut self, x: Answer) -> Settled
-        requires { Shape self × (self.running ≡ base_slots) × (self.nhigh ≡ 0) × (self.nlow ≡ 0) }
+        requires { Shape self × (self.running ≡ base_slots) × (self.high.count ≡ 0) × (self.low.count ≡ 0) }
         ensures { Comes (nobody_ready x (view self)) result }
     {
         if somebody_runs(&self.runners) {
@@ -28,17 +27,16 @@ impl Tables {
                 answer: wait,
             };
         }
-        let n = self.nwaits;
-        if n == 0 {
-            self.status = HALTED;
+        if self.waits.is_empty() {
+            self.status = Status::Halted;
             let halt = does(Action::Halt, x);
             return Settled {
                 tables: self,
                 answer: halt,
             };
         }
-        let Found::At(_) = find_between(&self.waits, n, &self.lines, FIRST_DEVICE, CLOCK) else {
-            self.status = PANICKED;
+        let Some(_) = self.waits.find_between(&self.lines, FIRST_DEVICE, CLOCK) else {
+            self.status = Status::Panicked;
             let panic = does(Action::Panic, x);
             return Settled {
                 tables: self,
@@ -70,21 +68,17 @@ impl Tables {
         requires { Shape self × (self.running ≡ base_slots) }
         ensures { Comes (schedule x (view self)) result }
     {
-        let high = self.nhigh;
-        let low = self.nlow;
+        let high = self.high.count;
+        let low = self.low.count;
         let count = counted(high, low, self.four);
         if takes_low(high, low, self.four) {
-            let slot = self.low[0];
-            remove_at(&mut self.low, low, 0);
-            self.nlow = low - 1;
+            let slot = self.low.remove(0);
             return self.runs(slot, count, x);
         }
-        if high == 0 {
+        if self.high.is_empty() {
             return self.nobody_ready(x);
         }
-        let slot = self.high[0];
-        remove_at(&mut self.high, high, 0);
-        self.nhigh = high - 1;
+        let slot = self.high.remove(0);
         self.runs(slot, count, x)
     }
 

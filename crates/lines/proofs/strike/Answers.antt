@@ -1,21 +1,22 @@
--- `lines::strike`: so far the places below i are struck (one law for the three widths, `Marks`). Assumes nothing.
+-- `lines::strike`: so far the places below i are struck. Assumes nothing.
 use mathlib.Core.Path.{◌∙◌}
 use native.Mathlib.Omega.{arith}
-use Rattle.lines.proofs.Marks.{strike_none, strike_hit, strike_miss, strike_end}
-use Rattle.lines.proofs.strike.Goals.{else-doomed-i, then-doomed-i}
+use Rattle.lines.specs.Lines.{blanked}
+use Rattle.lines.proofs.Marks.{over_none, strike_hit, strike_miss, strike_end}
+use Rattle.lines.proofs.strike.Goals.{else-mark, then-mark}
 use Rattle.lines.proofs.strike.Goals as goal
 
 pub loop-i-init : goal.loop-i-init
-loop-i-init c = (strike_none c.args.doomed.now c.args.a.now, omega arith)
+loop-i-init g c = let a = c.args in over_none (blanked a.blank a.marks.now a.a.now) a.a.now
 
 pub loop-i-preserved : goal.loop-i-preserved
-loop-i-preserved c =
-    let a = c.args in (
-      elim c.if-doomed-i.branch [ then-doomed-i w ↦ w.a-is ∙ strike_hit a.doomed.now a.a.now c.loop-i.a c.loop-i.i c.loop-i.invariant.0 (omega (arith, c.requires, c.loop-i-test.true)) w.if-doomed-i.true | else-doomed-i w ↦ w.a-is ∙ strike_miss a.doomed.now a.a.now c.loop-i.a c.loop-i.i c.loop-i.invariant.0 (omega (arith, c.requires, c.loop-i-test.true)) w.if-doomed-i.false ],
-      omega (arith, c.loop-i-test.true),
-    )
+loop-i-preserved g c =
+    let a = c.args in
+    let l = c.loop-i in
+    elim c.if-mark.branch [
+      | then-mark w ↦ w.a-is ∙ strike_hit a.blank a.marks.now a.a.now l.a l.i l.invariant (omega (arith, c.told-a, c.loop-i-test.true)) w.if-mark.true
+      | else-mark w ↦ w.a-is ∙ strike_miss a.blank a.marks.now a.a.now l.a l.i l.invariant (omega (arith, c.told-a, c.loop-i-test.true)) w.if-mark.false
+    ]
 
 pub returns : goal.returns
-returns c =
-    let a = c.args in
-    strike_end a.doomed.now a.a.now c.loop-i.a c.loop-i.i c.loop-i.invariant.0 (omega (arith, c.requires, c.loop-i-test.false))
+returns g c = let a = c.args in strike_end a.blank a.marks.now a.a.now c.loop-i.a c.loop-i.i c.loop-i.invariant (omega (arith, c.told-a, c.loop-i-test.false))

@@ -1,13 +1,8 @@
 -- `lines::toll`: so far the slots below s are summed. Assumes nothing.
 use Rattle.std.specs.Prelude.{if◌then◌else◌}
 use mathlib.Core.Path.{◌≡◌}
-use Prim.Native.Nat.{◌-◌, ◌≤◌}
-use Rattle.rules.specs.Numbers.{base_slots}
 use Rattle.lines.specs.Lines.{entry, marked, tally}
 use Rattle.lines.proofs.toll.Given as goal
 
 abbrev pub invariant-loop-s : goal.invariant-loop-s
-invariant-loop-s l = (l.sum ≡ tally (λ x. if marked l.marks x then entry l.weights x else 0) l.s) × (l.s ≤ base_slots)
-
-abbrev pub decreases-loop-s : goal.decreases-loop-s
-decreases-loop-s l = base_slots - l.s
+invariant-loop-s l = l.sum ≡ tally (λ x. if marked l.marks x then entry l.weights x else 0) l.s

@@ -1,8 +1,9 @@
 -- `idle`: a processor's idle time. Assumes nothing.
-use mathlib.Core.Path.{sym}
+use Rattle.std.proofs.Common.{◌≡◌, get_or, sym, ◌∙◌, rules}
 use Rattle.looks.proofs.Looking.{idle_told}
 use Rattle.looks.proofs.idle.Goals as goal
 
 pub returns : goal.returns
 returns c =
-    sym (idle_told c.args.t c.requires.shape c.args.processor)
+    let read : c.unwrap_or.result ≡ get_or c.args.t.idles c.args.processor 0 = search rules in
+    read ∙ sym (idle_told c.args.t c.requires.shape c.args.processor)

@@ -1,25 +1,18 @@
--- `idle_of`: so far the sum of what came before. Assumes nothing.
-use mathlib.Core.Path.{sym}
-use Prim.Native.Nat.{◌+◌, ◌≤◌}
+-- `idle_of`: the library's sum is the tally. Assumes nothing.
+use mathlib.Core.Path.{ap, ◌∙◌}
 use native.Mathlib.Omega.{arith}
-use Rattle.rules.specs.Numbers.{most_processors, time_limit}
-use Rattle.lines.specs.Lines.{entry}
-use Rattle.lines.proofs.Occ.{tally_none, tally_more, tally_part}
-use borrow.Author.Rules.{rules}
+use Rattle.std.proofs.lemmas.Iterator.{YieldsList-from_slice}
+use Rattle.std.proofs.lemmas.Iterator.Consumers.{sum_from_yields_List, fits_from_yields_list}
+use Rattle.lines.specs.Lines.{entry, tally}
+use Rattle.looks.proofs.Looking.{sum_tally}
 use Rattle.looks.proofs.idle_of.Goals as goal
 
-pub loop-k-init : goal.loop-k-init
-loop-k-init c = (sym (tally_none (entry c.args.idles.now)), omega arith)
-
-pub overflow_add-sum : goal.overflow_add-sum
-overflow_add-sum c =
+pub sum-requires-clause-fits : goal.sum-requires-clause-fits
+sum-requires-clause-fits c =
     let all = c.args.idles.now in
-    let low = c.loop-k-test.true in
-    let fits : c.loop-k.sum + entry all c.loop-k.k ≤ time_limit =
-    omega (arith, c.loop-k.invariant.0, tally_more (entry all) c.loop-k.k, tally_part (entry all) (c.loop-k.k + 1) most_processors (omega (arith, low)), c.requires.1) in
-    search rules
+    fits_from_yields_list _ _ (YieldsList-from_slice all cc) (omega (arith, sum_tally all, ap (tally (entry all)) c.requires.0, c.requires.1))
 
-pub loop-k-preserved : goal.loop-k-preserved
-loop-k-preserved c =
+pub returns : goal.returns
+returns c =
     let all = c.args.idles.now in
-    (omega (arith, c.loop-k.invariant.0, tally_more (entry all) c.loop-k.k), omega (arith, c.loop-k-test.true))
+    sum_from_yields_List _ c.sum.result c.sum.ensures.ran (YieldsList-from_slice all cc) ∙ sum_tally all ∙ ap (tally (entry all)) c.requires.0

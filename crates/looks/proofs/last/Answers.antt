@@ -1,8 +1,9 @@
 -- `last`: a processor's last clock reading. Assumes nothing.
-use mathlib.Core.Path.{sym}
+use Rattle.std.proofs.Common.{◌≡◌, get_or, sym, ◌∙◌, rules}
 use Rattle.looks.proofs.Looking.{last_told}
 use Rattle.looks.proofs.last.Goals as goal
 
 pub returns : goal.returns
 returns c =
-    sym (last_told c.args.t c.requires.shape c.args.processor)
+    let read : c.unwrap_or.result ≡ get_or c.args.t.lasts c.args.processor 0 = search rules in
+    read ∙ sym (last_told c.args.t c.requires.shape c.args.processor)

@@ -8,4 +8,4 @@ returns-then-s-ge-SLOTS c = sym (row_out c.args.t c.requires.shape c.args.slot c
 
 pub returns : goal.returns
 returns c =
-    rw (c.place_of-place.ensures, c.parent_of-parent.ensures) (sym (row_told c.args.t c.requires.shape c.args.slot))
+    rw (c.place_of.ensures, c.parent_of.ensures) (sym (row_told c.args.t c.requires.shape c.args.slot))

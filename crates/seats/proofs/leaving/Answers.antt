@@ -1,32 +1,21 @@
--- `seats::leaving`: so far the places below k are marked.
-use mathlib.Core.Path.{sym, ap, ◌∙◌}
-use mathlib.Core.Bool.{Bool, false}
-use mathlib.Core.List.{List}
+-- `seats::leaving`: each code is asked for, and each is a seat's.
+use mathlib.Core.Path.{◌≡◌, sym, subst, ◌∙◌}
+use Prim.Native.Nat.{ℕ, ◌<◌}
 use native.Mathlib.Omega.{arith}
-use lib.ListN.{set}
-use Rattle.lines.proofs.Marks.{over_none, over_set, over_all}
-use Rattle.seats.specs.Seats.{leaving_of}
-use Rattle.seats.proofs.Leave.{get_or_leaving, length_leaving}
-use Rattle.seats.proofs.leaving.Invariants.{unmarked}
+use lib.ListN.{length, get_or}
+use Rattle.std.proofs.Common.{rules, tests}
+use Rattle.std.specs.Prelude.{Option, None}
+use Rattle.std.proofs.lemmas.List.{get_or_default}
+use Rattle.rules.specs.Numbers.{most_processors}
+use Rattle.lines.proofs.Mapped.{mapped, serves_entries}
+use Rattle.seats.specs.Seats.{IsSeat, held_by, leaving_of}
 use Rattle.seats.proofs.leaving.Goals as goal
 
-pub loop-k-init : goal.loop-k-init
-loop-k-init c = (over_none (leaving_of c.args.doomed.now c.args.runners.now) unmarked, omega arith)
-
-pub loop-k-preserved : goal.loop-k-preserved
-loop-k-preserved c =
-    let a = c.args in
-    let new = leaving_of a.doomed.now a.runners.now in
-    let k = c.loop-k.k in
-    let b = c.loop-k-test.true in
-    let v = c.held.result in (
-      ap (λ (r : List Bool). set r k v) c.loop-k.invariant.0
-          ∙ over_set false new unmarked (length_leaving a.doomed.now a.runners.now ∙ c.requires.0) k b v (c.held.ensures ∙ sym (get_or_leaving a.doomed.now a.runners.now k)),
-      omega (arith, b),
-    )
+pub map-requires : goal.map-requires
+map-requires c =
+    let low : (x : Option ℕ) (k : ℕ) → k < length c.args.runners.now → x ≡ get_or c.args.runners.now k x → IsSeat x = λ x k b e. subst IsSeat (sym (e ∙ get_or_default c.args.runners.now k x None b)) (c.requires.1 k) in
+    (omega arith, (omega arith, (omega arith, serves_entries (λ x q r. search (rules, tests)) c.args.runners.now (λ x k b e. let l = low x k b e in search rules))))
 
 pub returns : goal.returns
-returns c =
-    let a = c.args in
-    c.loop-k.invariant.0
-    ∙ over_all (leaving_of a.doomed.now a.runners.now) unmarked c.loop-k.k (omega (arith, length_leaving a.doomed.now a.runners.now, c.requires.0, c.loop-k-test.false)) c.loop-k-test.false
+unfolding leaving_of
+returns c = mapped _ _ (held_by c.args.doomed.now) (λ x y q k. search (rules, tests)) c.args.runners.now c.map.result most_processors c.requires.0 c.map.ensures.items

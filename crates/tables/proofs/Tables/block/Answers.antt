@@ -18,7 +18,7 @@ push-requires c =
 
 pub schedule-requires : goal.schedule-requires
 schedule-requires c =
-    (rw (c.push.ensures.0, c.push.ensures.1) (block_step c.args.self c.requires.0 c.requires.1 c.args.code c.requires.2 c.requires.3).shape, refl)
+    (rw c.push.ensures (block_step c.args.self c.requires.0 c.requires.1 c.args.code c.requires.2 c.requires.3).shape, refl)
 
 pub returns : goal.returns
 returns c =
@@ -27,5 +27,5 @@ returns c =
     let k = c.args.code in
     then_schedule (block (decode k)) c.args.x m (blocked m k) c.schedule.result (block_step m g.0 g.1 k g.2 g.3)
     (subst (λ (j : Tables). Comes (schedule c.args.x (view j)) c.schedule.result)
-    (λ i. put_running base_slots m.four (put_waits (c.push.ensures.0 i) (c.push.ensures.1 i) (set m.lines m.running k) m))
+    (λ i. put_running base_slots m.four (put_waits (c.push.ensures i) (set m.lines m.running k) m))
     c.schedule.ensures)

@@ -1,7 +1,8 @@
 -- `Tables::kill` meets its contract.
-use Rattle.std.proofs.Common.{◌+◌, ◌-◌, ◌^◌, Bool, List, sym, ap, ◌∙◌, subst, arith, if◌then◌else◌}
+use Rattle.std.specs.Prelude.{Option, None}
+use Rattle.std.proofs.Common.{ℕ, ◌+◌, ◌-◌, ◌^◌, Bool, List, sym, ap, ◌∙◌, subst, arith, if◌then◌else◌}
 use Rattle.rules.specs.Numbers.{most_processors}
-use Rattle.lines.specs.Lines.{marked, tally, struck}
+use Rattle.lines.specs.Lines.{marked, tally, blanked}
 use Rattle.tables.specs.Promised.{Kills}
 use Rattle.tables.proofs.Doomed.{kill_step, toll_fits, bits_freed}
 use Rattle.tables.proofs.Tables.kill.Goals as goal
@@ -25,26 +26,23 @@ returns c =
     let f = c.family-doomed in
     let m = c.args.self in
     let left = c.leaving-left in
-    let struck-there = c.strike-4.ensures ∙ ap (λ (ds : List Bool). struck ds m.runners) left.ensures in
+    let struck-there = c.strike-8.ensures ∙ ap (λ (ds : List Bool). blanked {A = Option ℕ} None ds m.runners) left.ensures in
     let left-told = c.mask-idle.ensures ∙ ap (λ (ds : List Bool). tally (λ k. if marked ds k then 2 ^ k else 0) most_processors) left.ensures in
     subst (Kills c.args.id m)
     (λ i. record {
       tables = record {
         ids = sym c.strike.ensures i;
         taken = m.taken - sym c.mask-bits.ensures i;
-        parents = sym c.strike_bytes.ensures i;
-        customers = sym c.strike_bytes-2.ensures i;
-        priorities = sym c.strike-2.ensures i;
-        handles = sym c.strike-3.ensures i;
-        times = sym c.strike_times.ensures i;
-        lines = sym c.strike_bytes-3.ensures i;
-        high = sym c.drop_marked.ensures.1 i;
-        nhigh = sym c.drop_marked.ensures.0 i;
-        low = sym c.drop_marked-2.ensures.1 i;
-        nlow = sym c.drop_marked-2.ensures.0 i;
+        parents = sym c.strike-2.ensures i;
+        customers = sym c.strike-3.ensures i;
+        priorities = sym c.strike-4.ensures i;
+        handles = sym c.strike-5.ensures i;
+        times = sym c.strike-6.ensures i;
+        lines = sym c.strike-7.ensures i;
+        high = sym c.drop_marked.ensures i;
+        low = sym c.drop_marked-2.ensures i;
         four = m.four;
-        waits = sym c.drop_marked-j.ensures.1 i;
-        nwaits = sym c.drop_marked-j.ensures.0 i;
+        waits = sym c.drop_marked-3.ensures i;
         running = sym c.spared.ensures i;
         sems = m.sems;
         ceilings = m.ceilings;

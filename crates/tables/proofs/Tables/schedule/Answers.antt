@@ -1,5 +1,5 @@
 -- `Tables::schedule` meets its contract.
-use Rattle.std.proofs.Common.{◌≡◌, ℕ, Bool, List, ◌<◌, true, false, length, sym, ◌∙◌, arith}
+use Rattle.std.proofs.Common.{◌≡◌, ℕ, Bool, List, ◌<◌, true, false, length, sym, ◌∙◌, arith, eqb-true, eq-eqb, pos_of_ne-zero, true≢false}
 use lib.ListN.{length-map}
 use Rattle.rules.specs.Machine.{Process, takes_low, low_turn, counted}
 use Rattle.choices.proofs.Turns.{low_there, nobody_left}
@@ -10,63 +10,57 @@ use Rattle.tables.proofs.Choosing.{stuck, high_comes, low_comes}
 use Rattle.tables.proofs.Tables.schedule.Goals as goal
 
 -- how many are in each line
-high-size : (m : Tables) → Shape m → length (view m).high ≡ m.nhigh
+high-size : (m : Tables) → Shape m → length (view m).high ≡ m.high.count
 high-size m g = length-map (highs m) (row m) ∙ line_size g.high_line
 
-low-size : (m : Tables) → Shape m → length (view m).low ≡ m.nlow
+low-size : (m : Tables) → Shape m → length (view m).low ≡ m.low.count
 low-size m g = length-map (lows m) (row m) ∙ line_size g.low_line
 
 -- whose turn it is, and the count after the choice, said of the machine that the tables stand for
-turn_of : (m : Tables) → Shape m → {r : Bool} → ((hs ls : List Process) → length hs ≡ m.nhigh → length ls ≡ m.nlow → r ≡ low_turn hs ls m.four) → r ≡ takes_low (view m)
+turn_of : (m : Tables) → Shape m → {r : Bool} → ((hs ls : List Process) → length hs ≡ m.high.count → length ls ≡ m.low.count → r ≡ low_turn hs ls m.four) → r ≡ takes_low (view m)
 turn_of m g said = said (view m).high (view m).low (high-size m g) (low-size m g)
 
-count_of : (m : Tables) → Shape m → {r : ℕ} → ((hs ls : List Process) → length hs ≡ m.nhigh → length ls ≡ m.nlow → r ≡ counted hs ls m.four) → r ≡ counted (view m).high (view m).low m.four
+count_of : (m : Tables) → Shape m → {r : ℕ} → ((hs ls : List Process) → length hs ≡ m.high.count → length ls ≡ m.low.count → r ≡ counted hs ls m.four) → r ≡ counted (view m).high (view m).low m.four
 count_of m g said = said (view m).high (view m).low (high-size m g) (low-size m g)
 
 -- a low one is chosen only where there is one; a high one, where there is none, only where there is no low one
-some_low : (m : Tables) → Shape m → takes_low (view m) ≡ true → 0 < m.nlow
+some_low : (m : Tables) → Shape m → takes_low (view m) ≡ true → 0 < m.low.count
 some_low m g t = omega (arith, low_there (view m).high (view m).low m.four t, low-size m g)
 
-none_low : (m : Tables) → Shape m → takes_low (view m) ≡ false → m.nhigh ≡ 0 → m.nlow ≡ 0
+none_low : (m : Tables) → Shape m → takes_low (view m) ≡ false → m.high.count ≡ 0 → m.low.count ≡ 0
 none_low m g t h = sym (low-size m g) ∙ nobody_left (view m).high (view m).low m.four t (high-size m g ∙ h)
 
-pub remove_at-requires : goal.remove_at-requires
-remove_at-requires c =
+pub remove-slot-requires : goal.remove-slot-requires
+remove-slot-requires c =
     let turn = sym (turn_of c.args.self c.requires.0 c.takes_low.ensures) ∙ c.if-takes_low.true in
     let some-low = some_low c.args.self c.requires.0 turn in
     let l = c.requires.0.low_line in
-    (some-low, l.room, l.long)
-
-pub overflow_sub-self : goal.overflow_sub-self
-overflow_sub-self c =
-    let turn = sym (turn_of c.args.self c.requires.0 c.takes_low.ensures) ∙ c.if-takes_low.true in
-    let some-low = some_low c.args.self c.requires.0 turn in
-    omega (arith, some-low)
+    (some-low, l.room)
 
 pub returns-then-takes_low : goal.returns-then-takes_low
 returns-then-takes_low c =
     let count = count_of c.args.self c.requires.0 c.counted-count.ensures in
     let turn = sym (turn_of c.args.self c.requires.0 c.takes_low.ensures) ∙ c.if-takes_low.true in
     let some-low = some_low c.args.self c.requires.0 turn in
-    rw (c.runs.ensures, c.remove_at.ensures)
+    rw (c.runs.ensures, c.remove-slot.ensures.0, c.remove-slot.ensures.1)
     (low_comes c.args.x c.args.self c.requires.0 c.requires.1 c.counted-count.result count turn some-low)
 
 pub nobody_ready-requires : goal.nobody_ready-requires
 nobody_ready-requires c =
     let high-turn = sym (turn_of c.args.self c.requires.0 c.takes_low.ensures) ∙ c.if-takes_low.false in
-    let none-low = none_low c.args.self c.requires.0 high-turn c.if-high-eq0.true in
-    (c.requires.0, c.requires.1, c.if-high-eq0.true, none-low)
+    let none-low = none_low c.args.self c.requires.0 high-turn (eqb-true c.args.self.high.count 0 (sym c.is_empty.ensures ∙ c.if-is_empty.true)) in
+    (c.requires.0, c.requires.1, (eqb-true c.args.self.high.count 0 (sym c.is_empty.ensures ∙ c.if-is_empty.true)), none-low)
 
-pub returns-then-high-eq0 : goal.returns-then-high-eq0
-returns-then-high-eq0 c =
+pub returns-then-is_empty : goal.returns-then-is_empty
+returns-then-is_empty c =
     let high-turn = sym (turn_of c.args.self c.requires.0 c.takes_low.ensures) ∙ c.if-takes_low.false in
-    let none-low = none_low c.args.self c.requires.0 high-turn c.if-high-eq0.true in
-    stuck c.args.x c.args.self c.nobody_ready.result c.if-high-eq0.true none-low c.nobody_ready.ensures
+    let none-low = none_low c.args.self c.requires.0 high-turn (eqb-true c.args.self.high.count 0 (sym c.is_empty.ensures ∙ c.if-is_empty.true)) in
+    stuck c.args.x c.args.self c.nobody_ready.result (eqb-true c.args.self.high.count 0 (sym c.is_empty.ensures ∙ c.if-is_empty.true)) none-low c.nobody_ready.ensures
 
 pub returns : goal.returns
 returns c =
     let count = count_of c.args.self c.requires.0 c.counted-count.ensures in
     let high-turn = sym (turn_of c.args.self c.requires.0 c.takes_low.ensures) ∙ c.if-takes_low.false in
-    let some-high : 0 < c.args.self.nhigh = omega (arith, c.if-high-eq0.false) in
-    rw (c.runs-2.ensures, c.remove_at-2.ensures)
+    let some-high : 0 < c.args.self.high.count = pos_of_ne-zero (λ e. true≢false (sym (eq-eqb c.args.self.high.count 0 e) ∙ sym c.is_empty.ensures ∙ c.if-is_empty.false)) in
+    rw (c.runs-2.ensures, c.remove-slot-2.ensures.0, c.remove-slot-2.ensures.1)
     (high_comes c.args.x c.args.self c.requires.0 c.requires.1 c.counted-count.result count high-turn some-high)

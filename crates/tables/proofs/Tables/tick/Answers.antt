@@ -13,13 +13,13 @@ pub append_marked-requires : goal.append_marked-requires
 append_marked-requires c =
     let clock-marks : let m = c.args.self in (s : ℕ) → s < base_slots → marked c.marks_at-up.result s ≡ eqb (entry m.lines s) last_code = λ s b. ap (λ (ds : List Bool). marked ds s) c.marks_at-up.ensures ∙ get_or_marks_of c.args.self.lines last_code s (omega (arith, b, c.requires.lines_long)) in
     let g = c.requires in
-    (g.waits_line.room, g.high_line.long, g.waits_line.long, g.waits_line.slots, (up_room c.args.self g c.marks_at-up.result clock-marks).0)
+    ((g.waits_line.room, g.waits_line.slots), (up_room c.args.self g c.marks_at-up.result clock-marks).0)
 
 pub append_marked-requires-2 : goal.append_marked-requires-2
 append_marked-requires-2 c =
     let clock-marks : let m = c.args.self in (s : ℕ) → s < base_slots → marked c.marks_at-up.result s ≡ eqb (entry m.lines s) last_code = λ s b. ap (λ (ds : List Bool). marked ds s) c.marks_at-up.ensures ∙ get_or_marks_of c.args.self.lines last_code s (omega (arith, b, c.requires.lines_long)) in
     let g = c.requires in
-    (g.waits_line.room, g.low_line.long, g.waits_line.long, g.waits_line.slots, (up_room c.args.self g c.marks_at-up.result clock-marks).1)
+    ((g.waits_line.room, g.waits_line.slots), (up_room c.args.self g c.marks_at-up.result clock-marks).1)
 
 pub returns : goal.returns
 returns c =
@@ -30,7 +30,7 @@ returns c =
     let w = c.drop_marked.ensures in
     subst (Ticks m)
     (λ i. record {
-      tables = put_ready (sym h.1 i) (sym h.0 i) (sym l.1 i) (sym l.0 i) (put_waits (sym w.1 i) (sym w.0 i) (sym c.strike_bytes.ensures i) m);
+      tables = put_ready (sym h i) (sym l i) (put_waits (sym w i) (sym c.strike.ensures i) m);
       woken = sym c.mask-bits.ensures i;
     })
     (tick_is m c.requires c.marks_at-up.result clock-marks)

@@ -4,4 +4,4 @@ use Rattle.tables.proofs.Tables.turn.Goals as goal
 
 pub returns : goal.returns
 returns c =
-    rw (c.slot_of.ensures, c.code_of.ensures) (turn_step c.args.k c.args.self c.requires.0 c.requires.1)
+    rw (c.slot_of.ensures, c.seated.ensures) (turn_step c.args.k c.args.self c.requires.0 c.requires.1)

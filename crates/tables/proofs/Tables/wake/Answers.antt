@@ -7,36 +7,26 @@ pub returns-in_default : goal.returns-in_default
 returns-in_default c =
     wake_none c.args.self c.requires.0 c.args.code c.requires.1 c.requires.2 (sym c.find_between.ensures ∙ c.in_default.is)
 
-pub bounds-self-i : goal.bounds-self-i
-bounds-self-i c =
-    let h = found_place c.args.self c.requires.0 c.args.code c.requires.1 c.requires.2 _ (sym c.find_between.ensures ∙ c.in-At.is) in
-    omega (arith, c.requires.0.waits_line.room)
-
-pub remove_at-requires : goal.remove_at-requires
-remove_at-requires c =
-    let h = found_place c.args.self c.requires.0 c.args.code c.requires.1 c.requires.2 _ (sym c.find_between.ensures ∙ c.in-At.is) in
-    (h, c.requires.0.waits_line.room, c.requires.0.waits_line.long)
-
-pub overflow_sub-self : goal.overflow_sub-self
-overflow_sub-self c =
-    let h = found_place c.args.self c.requires.0 c.args.code c.requires.1 c.requires.2 _ (sym c.find_between.ensures ∙ c.in-At.is) in
-    omega arith
+pub remove-slot-requires : goal.remove-slot-requires
+remove-slot-requires c =
+    let h = found_place c.args.self c.requires.0 c.args.code c.requires.1 c.requires.2 _ (sym c.find_between.ensures ∙ c.in-Some.is) in
+    (h, c.requires.0.waits_line.room)
 
 pub bounds-self-s : goal.bounds-self-s
 bounds-self-s c =
-    found_slot c.args.self c.requires.0 c.args.code c.requires.1 c.requires.2 _ (sym c.find_between.ensures ∙ c.in-At.is)
+    rw c.remove-slot.ensures.0 (found_slot c.args.self c.requires.0 c.args.code c.requires.1 c.requires.2 _ (sym c.find_between.ensures ∙ c.in-Some.is))
 
 pub power-bit-requires : goal.power-bit-requires
 power-bit-requires c =
-    found_slot c.args.self c.requires.0 c.args.code c.requires.1 c.requires.2 _ (sym c.find_between.ensures ∙ c.in-At.is)
+    rw c.remove-slot.ensures.0 (found_slot c.args.self c.requires.0 c.args.code c.requires.1 c.requires.2 _ (sym c.find_between.ensures ∙ c.in-Some.is))
 
 pub joins-m-requires : goal.joins-m-requires
 joins-m-requires c =
-    let found = sym c.find_between.ensures ∙ c.in-At.is in
+    let found = sym c.find_between.ensures ∙ c.in-Some.is in
     let room = wake_room c.args.self c.requires.0 c.args.code c.requires.1 c.requires.2 _ found in
-    (found_slot c.args.self c.requires.0 c.args.code c.requires.1 c.requires.2 _ found, omega (arith, room), omega (arith, room))
+    (rw c.remove-slot.ensures.0 (found_slot c.args.self c.requires.0 c.args.code c.requires.1 c.requires.2 _ found), omega (arith, room), omega (arith, room))
 
 pub returns : goal.returns
 returns c =
-    rw (c.joins-m.ensures, c.power-bit.ensures, c.remove_at.ensures)
-    (wake_some c.args.self c.requires.0 c.args.code c.requires.1 c.requires.2 c.in-At.i (sym c.find_between.ensures ∙ c.in-At.is))
+    rw (c.joins-m.ensures, c.power-bit.ensures, c.remove-slot.ensures.0, c.remove-slot.ensures.1)
+    (wake_some c.args.self c.requires.0 c.args.code c.requires.1 c.requires.2 c.in-Some.i (sym c.find_between.ensures ∙ c.in-Some.is))

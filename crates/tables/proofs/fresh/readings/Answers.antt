@@ -1,15 +1,12 @@
--- `readings` meets its contract: so far the seats of the processors up to k have the start's reading.
-use Rattle.std.proofs.Common.{ℕ, List, set, ap, ◌∙◌, arith}
-use Rattle.tables.proofs.Begins.{readings_none, readings_more}
+-- `readings` meets its contract: the others that are there have the start's reading.
+use Rattle.std.proofs.Common.{rules, ◌≡◌, ◌-◌, ℕ, List, ◌∷◌, ◌++◌, replicate, ap, ◌∙◌}
+use borrow.Rule.Slice.PartMut.{post_of}
+use Rattle.tables.proofs.Begins.{zeros, readings_filled}
+use Rattle.rules.specs.Numbers.{most_processors}
 use Rattle.tables.proofs.fresh.readings.Goals as goal
 
-pub loop-k-init : goal.loop-k-init
-loop-k-init c = (readings_none c.args.clock, omega arith, c.requires.0)
-
-pub loop-k-preserved : goal.loop-k-preserved
-loop-k-preserved c =
-    let lp = c.loop-k in (
-      ap (λ (xs : List ℕ). set xs lp.k c.args.clock) lp.invariant.0 ∙ readings_more c.args.clock lp.k lp.invariant.1 (omega (arith, c.loop-k-test.true, c.requires.1)),
-      omega arith,
-      omega (arith, c.loop-k-test.true),
-    )
+pub returns : goal.returns
+returns c =
+    let n = c.args.processors - 1 in
+    let same : c.fill.new.self ≡ replicate {A = ℕ} n c.args.clock = search rules in
+    ap (λ (xs : List ℕ). 0 ∷ (xs ++ post_of {X = ℕ} 1 n (zeros most_processors))) same ∙ readings_filled c.args.clock c.args.processors c.requires.0 c.requires.1
