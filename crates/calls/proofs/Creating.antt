@@ -1,7 +1,7 @@
 -- The call −1, over machines alone: which slot is the lowest free one, that there is one for a customer below its
 -- ceiling, and what the call comes to.
 -- Assumes nothing.
-use Rattle.std.specs.Prelude.{if◌then◌else◌}
+use Rattle.std.specs.Prelude.{if◌then◌else◌, Some, None}
 use mathlib.Core.Path.{◌≡◌, refl, sym, ap, ◌∙◌}
 use mathlib.Core.Bool.{Bool, true, false, not, ◌||◌}
 use mathlib.Core.List.{List, [], ◌∷◌, map}
@@ -12,7 +12,6 @@ use lib.Dec.{eqb, leb, ltb}
 use lib.IntN.{pos, negsuc}
 use lib.ListN.{length, get_or, length-map}
 use borrow.Author.Tests.{eq-eqb, ne_eqb, eqb-true, leb-false, lt-ltb, le-ltb}
-use Rattle.rules.specs.declared.Result.TheVariants.{Says}
 use Rattle.rules.specs.Words.{among}
 use Rattle.rules.specs.Numbers.{base_slots, base_customers, top}
 use Rattle.rules.specs.Machine.{Process, living, child_of, lowest_free, birth}
@@ -22,7 +21,6 @@ use Rattle.rules.proofs.Cases.{or_true}
 use Rattle.rules.specs.Tables.{Sound}
 use Rattle.rules.proofs.Sound.{or_right, below_ceiling, room}
 use Rattle.lines.specs.Lines.{first_where, is_zero, occ, one, members_of}
-use Rattle.lines.specs.declared.Found.TheVariants.{At, Nothing}
 use Rattle.lines.proofs.Occ.{room_none}
 use Rattle.lines.proofs.Laws.{first_in}
 use Rattle.lines.proofs.Bridge.{found_passes, found_not}
@@ -75,12 +73,12 @@ module _ (m : Tables) (g : Shape m) where
   denied_is c = rw (members m g c)
 
   -- no row is free
-  none_left : first_where is_zero 0 m.ids ≡ Nothing → length (seats m) ≡ base_slots
+  none_left : first_where is_zero 0 m.ids ≡ None → length (seats m) ≡ base_slots
   none_left e =
       room_none base_slots (seats m) (seats_slots m g)
       (λ s b. g.homes s b ∙ ap (λ t. if t then 0 else 1) (found_not is_zero m.ids 0 e s (omega (arith, g.ids_long))))
 
-  module _ (s : ℕ) (e : first_where is_zero 0 m.ids ≡ At s) where
+  module _ (s : ℕ) (e : first_where is_zero 0 m.ids ≡ Some s) where
     pub found_slot : s < base_slots
     found_slot = omega (arith, first_in is_zero m.ids 0 s e, g.ids_long)
 
@@ -93,17 +91,17 @@ module _ (m : Tables) (g : Shape m) where
 
   module _ (priority handle : ℕ) where
     -- "create now gives −1 exactly when .."
-    refused : denied (child m priority) (view m) ≡ true → create (row m m.running) 0 priority handle (view m) ≡ carry_on (row m m.running) (with_result (Says (negsuc 0))) (view m)
+    refused : denied (child m priority) (view m) ≡ true → create (row m m.running) 0 priority handle (view m) ≡ carry_on (row m m.running) (with_result (Some (negsuc 0))) (view m)
     unfolding create
     refused e = rw e
 
-    pub create_ids : top < m.next → create (row m m.running) 0 priority handle (view m) ≡ carry_on (row m m.running) (with_result (Says (negsuc 0))) (view m)
+    pub create_ids : top < m.next → create (row m m.running) 0 priority handle (view m) ≡ carry_on (row m m.running) (with_result (Some (negsuc 0))) (view m)
     create_ids k = refused (denied_is (child m priority) ∙ rw (lt-ltb top m.next k) (or_true (at_its_ceiling m (child m priority))))
 
-    pub create_ceiling : at_its_ceiling m (child m priority) ≡ true → create (row m m.running) 0 priority handle (view m) ≡ carry_on (row m m.running) (with_result (Says (negsuc 0))) (view m)
+    pub create_ceiling : at_its_ceiling m (child m priority) ≡ true → create (row m m.running) 0 priority handle (view m) ≡ carry_on (row m m.running) (with_result (Some (negsuc 0))) (view m)
     create_ceiling e = refused (denied_is (child m priority) ∙ rw e)
 
-    pub create_shape : m.running < base_slots → (s : ℕ) → first_where is_zero 0 m.ids ≡ At s → Shape (born m s (child m priority) priority handle)
+    pub create_shape : m.running < base_slots → (s : ℕ) → first_where is_zero 0 m.ids ≡ Some s → Shape (born m s (child m priority) priority handle)
     create_shape h s e = born_shape m g h s (child m priority) priority handle (found_slot s e) (found_free s e)
 
     -- below the ceiling, with ids left
@@ -122,10 +120,10 @@ module _ (m : Tables) (g : Shape m) where
           )
 
       -- a slot is free: that none is left cannot be
-      pub create_slots : Sound (view m) → first_where is_zero 0 m.ids ≡ Nothing → ⊥
+      pub create_slots : Sound (view m) → first_where is_zero 0 m.ids ≡ None → ⊥
       create_slots sound e = omega (arith, room (child m priority) (view m) sound (below_ceiling (child m priority) (view m) granted), size, none_left e)
 
-      pub create_born : m.running < base_slots → (s : ℕ) → first_where is_zero 0 m.ids ≡ At s
+      pub create_born : m.running < base_slots → (s : ℕ) → first_where is_zero 0 m.ids ≡ Some s
           → create (row m m.running) 0 priority handle (view m)
           ≡ carry_on (row (born m s (child m priority) priority handle) m.running) (giving (pos m.next) (bearing s plain)) (view (born m s (child m priority) priority handle))
       unfolding create carry_on

@@ -1,6 +1,6 @@
 -- Who ends by call −2, over tables alone.
 -- Assumes nothing.
-use Rattle.std.specs.Prelude.{cond, if◌then◌else◌}
+use Rattle.std.specs.Prelude.{cond, if◌then◌else◌, Some, None}
 use mathlib.Core.Path.{◌≡◌, refl, sym, ap, ◌∙◌}
 use mathlib.Core.Bool.{Bool, true, false, ◌&&◌, ◌||◌}
 use mathlib.Core.List.{List, [], ◌∷◌}
@@ -11,7 +11,6 @@ use lib.Dec.{eqb}
 use lib.IntN.{pos, negsuc}
 use lib.ListN.{get_or}
 use borrow.Author.Tests.{eq-eqb, ne_eqb, eqb-true, eqb-false}
-use Rattle.rules.specs.declared.Result.TheVariants.{Silent, Says}
 use Rattle.rules.specs.declared.Answer.{Answer}
 use Rattle.rules.specs.Words.{first, those, any, All}
 use Rattle.rules.proofs.Cases.{or_true, and_left, and_intro}
@@ -21,7 +20,6 @@ use Rattle.rules.specs.Machine.{Process, living, named, family, kill, back}
 use Rattle.rules.specs.Answers.{Outcome, plain, giving, ending}
 use Rattle.rules.specs.Rules.{schedule, carry_on, die, may_name, terminate}
 use Rattle.lines.specs.Lines.{first_where, is_id, occ}
-use Rattle.lines.specs.declared.Found.TheVariants as found
 use Rattle.lines.proofs.Occ.{one_other}
 use Rattle.lines.proofs.Laws.{first_in}
 use Rattle.lines.proofs.Bridge.{any_map, any_same, found_passes, found_not}
@@ -90,7 +88,7 @@ module _ (m : Tables) (g : Shape m) (n : ℕ) (u : Process → Bool) where
   living_named = ap (any (whom n u)) (seats_living m g) ∙ any_map (whom n u) (row m) (seats m)
 
   -- who has an id is found by it: the test is asked of that one alone
-  found_named : 0 < n → (i : ℕ) → first_where (is_id n) 0 m.ids ≡ found.At i → any (whom n u) (living (view m)) ≡ u (row m i)
+  found_named : 0 < n → (i : ℕ) → first_where (is_id n) 0 m.ids ≡ Some i → any (whom n u) (living (view m)) ≡ u (row m i)
   unfolding t
   found_named some i e = living_named ∙ go (u (row m i)) refl
     where
@@ -115,7 +113,7 @@ module _ (m : Tables) (g : Shape m) (n : ℕ) (u : Process → Bool) where
       go false f = any_never (Seat m) t (λ s p. only s p f) (seats m) (seated m g)
 
   -- "an id that names nobody alive"
-  nobody_named : first_where (is_id n) 0 m.ids ≡ found.Nothing → any (whom n u) (living (view m)) ≡ false
+  nobody_named : first_where (is_id n) 0 m.ids ≡ None → any (whom n u) (living (view m)) ≡ false
   unfolding t
   nobody_named e = living_named ∙ any_never (Seat m) t none (seats m) (seated m g)
     where
@@ -131,7 +129,7 @@ module _ (m : Tables) (g : Shape m) (runs : m.running < base_slots) (a1 n : ℕ)
       go (yes z) = let y : n ≡ get_or m.ids m.running 0 = e ∙ rw (eq-eqb a1 0 z) in omega (arith, own_id m g runs)
       go (no d) = let y : n ≡ a1 = e ∙ rw (ne_eqb a1 0 d) in omega arith
 
-  pub ends_nobody : first_where (is_id n) 0 m.ids ≡ found.Nothing → (r : Settled) → Comes (carry_on (caller m) (with_result (Says (negsuc 0))) (view m)) r
+  pub ends_nobody : first_where (is_id n) 0 m.ids ≡ None → (r : Settled) → Comes (carry_on (caller m) (with_result (Some (negsuc 0))) (view m)) r
       → Comes (terminate (caller m) a1 0 0 (view m)) r
   ends_nobody h r c = comes_by _ _ r (terminate_by (caller m) a1 n (view m) e ∙ rw (nobody_named m g n (may_name (caller m)) h)) c
 
@@ -144,26 +142,26 @@ module _ (m : Tables) (g : Shape m) (runs : m.running < base_slots) (a1 n : ℕ)
   as_rows i = refl
 
   -- 02, (xi): "any other id gives −1"
-  pub ends_forbidden : (i : ℕ) → first_where (is_id n) 0 m.ids ≡ found.At i → may i ≡ false → (r : Settled) → Comes (carry_on (caller m) (with_result (Says (negsuc 0))) (view m)) r
+  pub ends_forbidden : (i : ℕ) → first_where (is_id n) 0 m.ids ≡ Some i → may i ≡ false → (r : Settled) → Comes (carry_on (caller m) (with_result (Some (negsuc 0))) (view m)) r
       → Comes (terminate (caller m) a1 0 0 (view m)) r
   ends_forbidden i h forbids r c = comes_by _ _ r (terminate_by (caller m) a1 n (view m) e ∙ rw (found_named m g n (may_name (caller m)) named_pos i h, as_rows i, forbids)) c
 
-  module _ (i : ℕ) (h : first_where (is_id n) 0 m.ids ≡ found.At i) (allows : may i ≡ true) (k : Killed) (t : Kills n m k) (x : Answer) (r : Settled) where
+  module _ (i : ℕ) (h : first_where (is_id n) 0 m.ids ≡ Some i) (allows : may i ≡ true) (k : Killed) (t : Kills n m k) (x : Answer) (r : Settled) where
     ends_found : terminate (caller m) a1 0 0 (view m) ≡ ends_with n (caller m) (view m)
     ends_found = terminate_by (caller m) a1 n (view m) e ∙ rw (found_named m g n (may_name (caller m)) named_pos i h, as_rows i, allows)
 
     -- 02, (ix): "a surviving caller with a valid target goes to the end of its ready line with result 0, then schedule"
-    pub ends_other : k.tables.running < base_slots → x ≡ ended_told (Says (pos 0)) k.ended k.idled → Comes (schedule x (back (view k.tables))) r
+    pub ends_other : k.tables.running < base_slots → x ≡ ended_told (Some (pos 0)) k.ended k.idled → Comes (schedule x (back (view k.tables))) r
         → Comes (terminate (caller m) a1 0 0 (view m)) r
     unfolding family
     ends_other b q c = go (kin m.parents m.ids n m.running) refl
       where
         go : (d : Bool) → kin m.parents m.ids n m.running ≡ d → Comes (terminate (caller m) a1 0 0 (view m)) r
         go true f = absurd (omega (arith, t.gone f))
-        go false f = comes_by _ _ r (ends_found ∙ rw f (after_kill (λ y l. schedule y (back l)) (Says (pos 0)) n m k t x q)) c
+        go false f = comes_by _ _ r (ends_found ∙ rw f (after_kill (λ y l. schedule y (back l)) (Some (pos 0)) n m k t x q)) c
 
     -- "if the caller ends, schedule"
-    pub ends_caller : base_slots ≤ k.tables.running → x ≡ ended_told Silent k.ended k.idled → Comes (schedule x (view k.tables)) r
+    pub ends_caller : base_slots ≤ k.tables.running → x ≡ ended_told None k.ended k.idled → Comes (schedule x (view k.tables)) r
         → Comes (terminate (caller m) a1 0 0 (view m)) r
     unfolding family
     ends_caller b q c = go (kin m.parents m.ids n m.running) refl

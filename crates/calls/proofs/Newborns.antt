@@ -1,5 +1,7 @@
 -- A birth, over machines alone: what the code leaves is the rule book's birth, and the layout holds again.
 -- Assumes nothing.
+use Rattle.std.specs.Prelude.{Option, Some, None}
+use Rattle.std.specs.Option.{unwrap_or}
 use mathlib.Core.Path.{◌≡◌, refl, sym, ap, ap₂, ◌∙◌}
 use mathlib.Core.List.{List, [], ◌∷◌, map}
 use Prim.Native.Nat.{ℕ, zero, suc, ◌+◌, ◌^◌, ◌<◌, ◌≤◌}
@@ -15,7 +17,7 @@ use Rattle.lines.proofs.Occ.{one_same, one_other, occ_append}
 use Rattle.lines.proofs.Zeros.{mask_set, mask_fits}
 use Rattle.lines.proofs.Bridge.{occurring, map_same, each}
 use Rattle.tables.specs.declared.Tables.{Tables}
-use Rattle.tables.specs.Codes.{decode, status_of}
+use Rattle.tables.specs.Codes.{decode}
 use Rattle.tables.specs.View.{row, waiter, occupant, highs, lows, waiters, seats, view, live, Shape}
 use Rattle.kin.specs.Families.{above, climb, elders, Parent, Kin}
 use Rattle.tables.specs.Promised.{lined_up, Step}
@@ -30,19 +32,16 @@ abbrev pub rowed : Tables → ℕ → ℕ → ℕ → ℕ → ℕ → Tables
 rowed m s bit customer priority handle = record {
   ids = set m.ids s m.next;
   taken = m.taken + bit;
-  parents = set m.parents s (m.running + 1);
+  parents = set m.parents s (Some m.running);
   customers = set m.customers s customer;
   priorities = set m.priorities s priority;
   handles = set m.handles s handle;
   times = m.times;
   lines = m.lines;
   high = m.high;
-  nhigh = m.nhigh;
   low = m.low;
-  nlow = m.nlow;
   four = m.four;
   waits = m.waits;
-  nwaits = m.nwaits;
   running = m.running;
   sems = m.sems;
   ceilings = m.ceilings;
@@ -63,17 +62,17 @@ abbrev pub born : Tables → ℕ → ℕ → ℕ → ℕ → Tables
 born m s customer priority handle = lined_up (s ∷ []) (rowed m s (2 ^ s) customer priority handle)
 
 -- who climbs past a free slot does not see what is stored there
-climb_past : (ps ids : List ℕ) → Kin ps ids → (f u v : ℕ) → get_or ids f 0 ≡ 0 → (n s : ℕ) → s < base_slots → (s ≡ f → ⊥) → climb (set ps f u) (set ids f v) n s ≡ climb ps ids n s
+climb_past : (ps : List (Option ℕ)) (ids : List ℕ) → Kin ps ids → (f : ℕ) (u : Option ℕ) (v : ℕ) → get_or ids f 0 ≡ 0 → (n s : ℕ) → s < base_slots → (s ≡ f → ⊥) → climb (set ps f u) (set ids f v) n s ≡ climb ps ids n s
 unfolding climb
 climb_past ps ids k f u v z zero s b d = refl
 climb_past ps ids k f u v z (suc n) s b d =
-    ap (λ x. above x (λ p. get_or (set ids f v) p 0 ∷ climb (set ps f u) (set ids f v) n p)) (get_or-set_other ps f s u 0 d)
-    ∙ go (get_or ps s 0) refl (λ p c e. climb_past ps ids k f u v z n p c e)
+    ap (λ x. above x (λ p. get_or (set ids f v) p 0 ∷ climb (set ps f u) (set ids f v) n p)) (get_or-set_other ps f s u None d)
+    ∙ go (get_or ps s None) refl (λ p c e. climb_past ps ids k f u v z n p c e)
   where
-    go : (x : ℕ) → get_or ps s 0 ≡ x → ((p : ℕ) → p < base_slots → (p ≡ f → ⊥) → climb (set ps f u) (set ids f v) n p ≡ climb ps ids n p)
+    go : (x : Option ℕ) → get_or ps s None ≡ x → ((p : ℕ) → p < base_slots → (p ≡ f → ⊥) → climb (set ps f u) (set ids f v) n p ≡ climb ps ids n p)
         → above x (λ p. get_or (set ids f v) p 0 ∷ climb (set ps f u) (set ids f v) n p) ≡ above x (λ p. get_or ids p 0 ∷ climb ps ids n p)
-    go zero e ih = refl
-    go (suc p) e ih =
+    go None e ih = refl
+    go (Some p) e ih =
         let q = k s p b e in
         let d : p ≡ f → ⊥ = λ y. let y' : ⊥ = omega (arith, q.alive, z, ap (λ t. get_or ids t 0) y) in y' in
         ap₂ (λ x (xs : List ℕ). x ∷ xs) (get_or-set_other ids f p v 0 d) (ih p q.slot d)
@@ -88,7 +87,7 @@ module _ (m : Tables) (g : Shape m) (h : m.running < base_slots) (s customer pri
   abbrev b₀ : Tables
   b₀ = rowed m s (2 ^ s) customer priority handle
 
-  room : m.nhigh + m.nlow + 1 ≤ base_slots
+  room : m.high.count + m.low.count + 1 ≤ base_slots
   room = omega (arith, room_beside m g h)
 
   pos : 0 < m.next
@@ -107,29 +106,32 @@ module _ (m : Tables) (g : Shape m) (h : m.running < base_slots) (s customer pri
   id_other : (x : ℕ) → (x ≡ s → ⊥) → get_or r.ids x 0 ≡ get_or m.ids x 0
   id_other x n = get_or-set_other m.ids s x m.next 0 n
 
-  parent_of : get_or r.parents s 0 ≡ m.running + 1
-  parent_of = get_or-set_same m.parents s (m.running + 1) 0 (omega (arith, g.parents_long))
+  parent_of : get_or r.parents s None ≡ Some m.running
+  parent_of = get_or-set_same m.parents s (Some m.running) None (omega (arith, g.parents_long))
 
   -- nobody alive has the free slot
   apart : (x : ℕ) → Seat m x → x ≡ s → ⊥
   apart x p e = let y : ⊥ = omega (arith, p.alive, free, ap (λ t. get_or m.ids t 0) e) in y
+
+  inside : {a b : ℕ} → Some a ≡ Some b → a ≡ b
+  inside {a} e = ap (λ o. unwrap_or o a) e
 
   kin_born : Kin r.parents r.ids
   kin_born x p c e = go (ℕ_discrete x s)
     where
       go : Dec (x ≡ s) → Parent r.ids x p
       go (yes q) =
-          let up : m.running ≡ p = omega (arith, e, ap (λ t. get_or r.parents t 0) q, parent_of) in
+          let up : m.running ≡ p = inside (sym parent_of ∙ ap (λ t. get_or r.parents t None) (sym q) ∙ e) in
           let i : get_or r.ids p 0 ≡ get_or m.ids m.running 0 = ap (λ t. get_or r.ids t 0) (sym up) ∙ id_other m.running (apart m.running run) in
           record { slot = omega arith; alive = omega (arith, i, run.alive); older = omega (arith, i, ap (λ t. get_or r.ids t 0) q, id_of, g.issued m.running h) }
       go (no n) =
-          let q = g.parent x p c (sym (get_or-set_other m.parents s x (m.running + 1) 0 n) ∙ e) in
+          let q = g.parent x p c (sym (get_or-set_other m.parents s x (Some m.running) None n) ∙ e) in
           let d : p ≡ s → ⊥ = λ y. let y' : ⊥ = omega (arith, q.alive, free, ap (λ t. get_or m.ids t 0) y) in y' in
           record { slot = q.slot; alive = omega (arith, q.alive, id_other p d); older = omega (arith, q.older, id_other p d, id_other x n) }
 
   old_elders : (x : ℕ) → x < base_slots → (x ≡ s → ⊥) → elders r.parents r.ids x ≡ elders m.parents m.ids x
   old_elders x c n =
-      climb_past m.parents m.ids g.parent s (m.running + 1) m.next free (get_or r.ids x 0) x c n
+      climb_past m.parents m.ids g.parent s (Some m.running) m.next free (get_or r.ids x 0) x c n
       ∙ ap (λ k. climb m.parents m.ids k x) (id_other x n)
 
   old_row : (x : ℕ) → Seat m x → row r x ≡ row m x
@@ -140,7 +142,7 @@ module _ (m : Tables) (g : Shape m) (h : m.running < base_slots) (s customer pri
   new_elders : elders r.parents r.ids s ≡ get_or m.ids m.running 0 ∷ elders m.parents m.ids m.running
   new_elders =
       let n = apart m.running run in
-      elders_up r.parents r.ids kin_born s m.running b (parent_of ∙ let z : m.running + 1 ≡ suc m.running = omega arith in z)
+      elders_up r.parents r.ids kin_born s m.running b parent_of
       ∙ ap₂ (λ x (xs : List ℕ). x ∷ xs) (id_other m.running n) (old_elders m.running h n)
 
   new_row : lowest_free (view m) ≡ s → customer ≡ child_of (get_or m.customers m.running 0) priority → row r s ≡ newborn (row m m.running) priority handle (view m)
@@ -192,7 +194,6 @@ module _ (m : Tables) (g : Shape m) (h : m.running < base_slots) (s customer pri
     no_priority = unborn (λ x. get_or r.priorities x 0 ≡ 0) (λ x c n z. get_or-set_other m.priorities s x priority 0 n ∙ g.no_priority x c z);
     no_handle = unborn (λ x. get_or r.handles x 0 ≡ 0) (λ x c n z. get_or-set_other m.handles s x handle 0 n ∙ g.no_handle x c z);
     no_time = unborn (λ x. get_or r.times x 0 ≡ 0) (λ x c n z. g.no_time x c z);
-    status = g.status;
     runners_long = g.runners_long;
     lasts_long = g.lasts_long;
     idles_long = g.idles_long;
@@ -207,7 +208,7 @@ module _ (m : Tables) (g : Shape m) (h : m.running < base_slots) (s customer pri
   }
 
   abbrev with_birth : List Process → List Process → List Process → List Waiter → ℕ → List book.Seat → book.Machine
-  with_birth run h l w k ss = record { slots = base_slots; ceilings = m.ceilings; running = run; high = h; low = l; four = m.four; waiting = w; sems = m.sems; next = k; status = status_of m.status; last = m.last; total = m.total; idle = m.idle; ended = m.ended; elsewhere = ss }
+  with_birth run h l w k ss = record { slots = base_slots; ceilings = m.ceilings; running = run; high = h; low = l; four = m.four; waiting = w; sems = m.sems; next = k; status = m.status; last = m.last; total = m.total; idle = m.idle; ended = m.ended; elsewhere = ss }
 
   -- the rows of the others are as they were
   same_rows : (l : List ℕ) → ((x : ℕ) → 1 ≤ occ x l → Seat m x) → map (row r) l ≡ map (row m) l

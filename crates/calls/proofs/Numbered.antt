@@ -1,54 +1,49 @@
 -- The ten calls by their codes: the service that each names.
 -- Assumes nothing.
-use Rattle.std.specs.Prelude.{if◌then◌else◌}
-use mathlib.Core.Path.{◌≡◌, refl, ap}
-use mathlib.Core.Bool.{Bool, true, false}
-use mathlib.Core.List.{List, [], ◌∷◌}
-use Prim.Native.Nat.{ℕ, zero, suc, ◌<◌, ◌≤◌}
-use native.Mathlib.Nat.{le_of_suc-le-suc}
-use native.Mathlib.Omega.{arith}
-use lib.Dec.{ltb}
+use Rattle.std.specs.Prelude.{Option, Some, None}
+use mathlib.Core.Path.{◌≡◌, refl}
+use Prim.Native.Nat.{ℕ, zero, suc, ◌<◌}
 use lib.IntN.{ℤ, pos, negsuc}
-use lib.ListN.{length, get_or}
-use borrow.Author.Tests.{ltb-false}
 use Rattle.rules.specs.declared.Mode.TheVariants.{User, Kernel}
 use Rattle.rules.specs.declared.Cause.TheVariants.{General}
 use Rattle.rules.specs.Numbers.{base_slots}
-use Rattle.rules.specs.Rules.{Service, service, services, trap, trapped, pass_up_or_die, call}
+use Rattle.rules.specs.Rules.{Service, service, services, trap, trapped, pass_up_or_die, call, create, terminate, passeren, verhogen, do_io, cpu_time, wait_clock, support, identity, yield}
 use Rattle.tables.specs.declared.Tables.{Tables}
+use Rattle.verdicts.specs.declared.Service.{Service as Named}
+use Rattle.verdicts.specs.declared.Service.TheVariants.{Create, Terminate, Passeren, Verhogen, DoIo, CpuTime, WaitClock, Support, Identity, Yield}
 use Rattle.verdicts.specs.Calls.{call_code}
-use Rattle.verdicts.proofs.Keys.{past}
 use Rattle.tables.specs.View.{row, view, Shape}
 use Rattle.tables.proofs.Seats.{runs_one}
 
--- ---- what a code names
--- code k + 1 names the service k, 0 the program trap
-abbrev pub called : ℕ → Service
-called zero = trapped
-called (suc k) = get_or services k trapped
+-- ---- what a call names: its service, or the program trap
+abbrev pub called : Option Named → Service
+called None = trapped
+called (Some Create) = create
+called (Some Terminate) = terminate
+called (Some Passeren) = passeren
+called (Some Verhogen) = verhogen
+called (Some DoIo) = do_io
+called (Some CpuTime) = cpu_time
+called (Some WaitClock) = wait_clock
+called (Some Support) = support
+called (Some Identity) = identity
+called (Some Yield) = yield
 
--- past the end of a list
-beyond {ℓ} : {A : Type ℓ} (l : List A) (d : A) (n : ℕ) → length l ≤ n → get_or l n d ≡ d
-beyond [] d n h = refl
-beyond (x ∷ l) d zero h = absurd (omega arith)
-beyond (x ∷ l) d (suc n) h = beyond l d n (le_of_suc-le-suc h)
-
--- no other code names a service
-pub called_other : (k : ℕ) → (k ≡ 1 → ⊥) → (k ≡ 2 → ⊥) → (k ≡ 3 → ⊥) → (k ≡ 4 → ⊥) → (k ≡ 5 → ⊥) → (k ≡ 6 → ⊥) → (k ≡ 7 → ⊥) → (k ≡ 8 → ⊥) → (k ≡ 9 → ⊥) → (k ≡ 10 → ⊥) → called k ≡ trapped
-unfolding services
-called_other zero h0 h1 h2 h3 h4 h5 h6 h7 h8 h9 = refl
-called_other (suc n) h0 h1 h2 h3 h4 h5 h6 h7 h8 h9 =
-    beyond services trapped n (past n (λ q. h0 (ap suc q)) (λ q. h1 (ap suc q)) (λ q. h2 (ap suc q)) (λ q. h3 (ap suc q)) (λ q. h4 (ap suc q)) (λ q. h5 (ap suc q)) (λ q. h6 (ap suc q)) (λ q. h7 (ap suc q)) (λ q. h8 (ap suc q)) (λ q. h9 (ap suc q)))
-
--- each a0 names the service of its code
+-- each a0 names the service of its call
 service_code : (a0 : ℤ) → service Kernel a0 ≡ called (call_code a0)
 unfolding service services
 service_code (pos n) = refl
-service_code (negsuc n) = go (ltb n 10) refl
-  where
-    go : (b : Bool) → ltb n 10 ≡ b → get_or services n trapped ≡ called (if b then suc n else 0)
-    go true e = refl
-    go false e = beyond services trapped n (ltb-false n 10 e)
+service_code (negsuc zero) = refl
+service_code (negsuc (suc zero)) = refl
+service_code (negsuc (suc (suc zero))) = refl
+service_code (negsuc (suc (suc (suc zero)))) = refl
+service_code (negsuc (suc (suc (suc (suc zero))))) = refl
+service_code (negsuc (suc (suc (suc (suc (suc zero)))))) = refl
+service_code (negsuc (suc (suc (suc (suc (suc (suc zero))))))) = refl
+service_code (negsuc (suc (suc (suc (suc (suc (suc (suc zero)))))))) = refl
+service_code (negsuc (suc (suc (suc (suc (suc (suc (suc (suc zero))))))))) = refl
+service_code (negsuc (suc (suc (suc (suc (suc (suc (suc (suc (suc zero)))))))))) = refl
+service_code (negsuc (suc (suc (suc (suc (suc (suc (suc (suc (suc (suc n))))))))))) = refl
 
 -- ---- a call of whoever runs
 module _ (m : Tables) (g : Shape m) (h : m.running < base_slots) (a0 : ℤ) (a1 a2 a3 : ℕ) where

@@ -89,7 +89,7 @@ device_comes d b m w r t h =
 
 -- ---- P
 abbrev pub put_sem : ℕ → ℕ → Tables → Tables
-put_sem i v m = record { ids = m.ids; taken = m.taken; parents = m.parents; customers = m.customers; priorities = m.priorities; handles = m.handles; times = m.times; lines = m.lines; high = m.high; nhigh = m.nhigh; low = m.low; nlow = m.nlow; four = m.four; waits = m.waits; nwaits = m.nwaits; running = m.running; sems = set m.sems i v; ceilings = m.ceilings; next = m.next; status = m.status; last = m.last; total = m.total; idle = m.idle; ended = m.ended; runners = m.runners; lasts = m.lasts; idles = m.idles; processors = m.processors }
+put_sem i v m = record { ids = m.ids; taken = m.taken; parents = m.parents; customers = m.customers; priorities = m.priorities; handles = m.handles; times = m.times; lines = m.lines; high = m.high; low = m.low; four = m.four; waits = m.waits; running = m.running; sems = set m.sems i v; ceilings = m.ceilings; next = m.next; status = m.status; last = m.last; total = m.total; idle = m.idle; ended = m.ended; runners = m.runners; lasts = m.lasts; idles = m.idles; processors = m.processors }
 
 pub sem_shape : (i v : ℕ) (m : Tables) → Shape m → Shape (put_sem i v m)
 sem_shape i v m g = let long : length (set m.sems i v) ≡ base_sems = simp length-set g.sems_long in search rules

@@ -11,18 +11,17 @@ ghost use Rattle.tables.specs.Promised.{Comes};
 
 use answers::{bare, bears, ends, gives, says, serves, wakes};
 use kin::{at_ceiling, may_name, parent_of};
-use lines::{Found, find_id, lowest_free, power};
-use rules::{Cause, DEVICES, Mode, Result, SEMAPHORES, SLOTS, TOP};
+use lines::{find_id, lowest_free, power};
+use rules::{Cause, DEVICES, Mode, SEMAPHORES, SLOTS, TOP};
 use tables::{CLOCK, FIRST_DEVICE, Settled, Tables};
-use verdicts::{call_code, child_of, named};
+use verdicts::{Service, call_code, child_of, named};
 
 // The running process carries on with a result.
-fn replies(t: Tables, res: Result) -> Settled
+fn replies(t: Tables, res: Option<i64>) -> Settled
     requires { Shape t × (t.running < base_slots) }
     ensures { Comes (carry_on (row t t.running) (with_result res) (view t)) result }
 {
-    let x = gives(res);
-    t.carries_on(x)
+    t.carries_on(gives(res))
 }
 
 // −1: "The newborn is the caller's child, last in the ready line, time 0": in that of its own priority. A customer
@@ -34,19 +33,19 @@ fn create(mut t: Tables, a2: u32, a3: u32) -> Settled
     let at = t.running;
     let id = t.next;
     if TOP < id {
-        return replies(t, Result::Says(-1));
+        return replies(t, Some(-1));
     }
     let customer = child_of(t.customers[at], a2);
     if at_ceiling(&t.ids, &t.customers, &t.ceilings, customer) {
-        return replies(t, Result::Says(-1));
+        return replies(t, Some(-1));
     }
-    let Found::At(s) = lowest_free(t.taken) else {
-        return replies(t, Result::Says(-1));
+    let Some(s) = lowest_free(t.taken) else {
+        return replies(t, Some(-1));
     };
     let slot = s as u8;
     t.ids[s] = id;
     t.taken = t.taken + power(s);
-    t.parents[s] = at as u8 + 1;
+    t.parents[s] = Some(at as u8);
     t.customers[s] = customer as u8;
     t.priorities[s] = a2;
     t.handles[s] = a3;
@@ -66,19 +65,19 @@ fn terminate(t: Tables, a1: u32) -> Settled
     let at = t.running;
     let own = t.ids[at];
     let id = named(a1, own);
-    let Found::At(target) = find_id(&t.ids, id) else {
-        return replies(t, Result::Says(-1));
+    let Some(target) = find_id(&t.ids, id) else {
+        return replies(t, Some(-1));
     };
     if !may_name(&t.ids, &t.parents, &t.customers, at, target) {
-        return replies(t, Result::Says(-1));
+        return replies(t, Some(-1));
     }
     let k = t.kill(id);
     let m = k.tables;
     if m.running < SLOTS {
-        let x = ends(Result::Says(0), k.ended, k.idled);
+        let x = ends(Some(0), k.ended, k.idled);
         return m.back(x);
     }
-    let x = ends(Result::Silent, k.ended, k.idled);
+    let x = ends(None, k.ended, k.idled);
     m.schedule(x)
 }
 
@@ -185,19 +184,19 @@ pub fn call(t: Tables, mode: Mode, a0: i32, a1: u32, a2: u32, a3: u32) -> Settle
     let Mode::Kernel = mode else {
         return t.pass_up_or_die(Cause::General);
     };
-    let code = call_code(a0);
-    let x = bare();
-    match code {
-        1 => create(t, a2, a3),
-        2 => terminate(t, a1),
-        3 => passeren(t, a1),
-        4 => verhogen(t, a1),
-        5 => do_io(t, a1),
-        6 => cpu_time(t),
-        7 => t.block(CLOCK, x),
-        8 => support(t),
-        9 => identity(t, a1),
-        10 => t.back(x),
-        _ => t.pass_up_or_die(Cause::General),
+    let Some(service) = call_code(a0) else {
+        return t.pass_up_or_die(Cause::General);
+    };
+    match service {
+        Service::Create => create(t, a2, a3),
+        Service::Terminate => terminate(t, a1),
+        Service::Passeren => passeren(t, a1),
+        Service::Verhogen => verhogen(t, a1),
+        Service::DoIo => do_io(t, a1),
+        Service::CpuTime => cpu_time(t),
+        Service::WaitClock => t.block(CLOCK, bare()),
+        Service::Support => support(t),
+        Service::Identity => identity(t, a1),
+        Service::Yield => t.back(bare()),
     }
 }

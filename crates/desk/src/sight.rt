@@ -3,21 +3,20 @@ ghost use Rattle.std.specs.Prelude.{◌≡◌};
 ghost use Rattle.rules.specs.Answers.{mask};
 ghost use Rattle.rules.specs.Machine.{living, living_of, ceiling};
 ghost use Rattle.rules.specs.Rules.{value};
-ghost use Rattle.looks.specs.Looks.{seat_of, who_runs, row_at, highs_in_order, lows_in_order, waiting_in_order, sums, standing};
+ghost use Rattle.looks.specs.Looks.{seat_of, who_runs, row_at, highs_in_order, lows_in_order, waiting_in_order, sums};
 ghost use Rattle.desk.specs.View.{view, Good};
 
 use crate::Machine;
-use looks::{Order, Row, Status, Totals};
-use rules::Part;
+use looks::{Order, Row, Totals};
+use rules::Status;
 
 impl Machine {
     // The slot of whoever runs on a processor, or absent.
-    pub fn running(self, processor: u8) -> Part
+    pub fn running(self, processor: u8) -> Option<u8>
         requires { Good self }
         ensures { result ≡ who_runs processor (view self) }
     {
-        let t = self.tables;
-        looks::running(t, processor)
+        looks::running(self.tables, processor)
     }
 
     // The mask of the living, "bit n for slot n".
@@ -25,8 +24,7 @@ impl Machine {
         requires { Good self }
         ensures { result ≡ mask (living (view self)) }
     {
-        let t = self.tables;
-        looks::alive(t)
+        looks::alive(self.tables)
     }
 
     // All of the process in a slot: id, parent, customer, priority, handle, time and place; zeros where nobody is
@@ -35,8 +33,7 @@ impl Machine {
         requires { Good self }
         ensures { result ≡ row_at slot (view self) }
     {
-        let t = self.tables;
-        looks::row_in(t, slot)
+        looks::row_in(self.tables, slot)
     }
 
     // The high ready line, first come first.
@@ -44,8 +41,7 @@ impl Machine {
         requires { Good self }
         ensures { result ≡ highs_in_order (view self) }
     {
-        let t = self.tables;
-        looks::high(t)
+        looks::high(self.tables)
     }
 
     // The low ready line, first come first.
@@ -53,8 +49,7 @@ impl Machine {
         requires { Good self }
         ensures { result ≡ lows_in_order (view self) }
     {
-        let t = self.tables;
-        looks::low(t)
+        looks::low(self.tables)
     }
 
     // The count of four: how many high ones in a row were chosen while a low one was waiting.
@@ -62,8 +57,7 @@ impl Machine {
         requires { Good self }
         ensures { result ≡ (view self).four }
     {
-        let t = self.tables;
-        t.four
+        self.tables.four
     }
 
     // All who wait, in the order in which they came; a row tells the line of each.
@@ -71,8 +65,7 @@ impl Machine {
         requires { Good self }
         ensures { result ≡ waiting_in_order (view self) }
     {
-        let t = self.tables;
-        looks::waiting(t)
+        looks::waiting(self.tables)
     }
 
     // A semaphore's value; 0 where there is no such semaphore.
@@ -80,8 +73,7 @@ impl Machine {
         requires { Good self }
         ensures { result ≡ value number (view self) }
     {
-        let t = self.tables;
-        looks::semaphore(t, number)
+        looks::semaphore(self.tables, number)
     }
 
     // A customer's ceiling; 0 where there is no such customer.
@@ -89,8 +81,7 @@ impl Machine {
         requires { Good self }
         ensures { result ≡ ceiling customer (view self) }
     {
-        let t = self.tables;
-        looks::ceiling(t, customer)
+        looks::ceiling(self.tables, customer)
     }
 
     // A customer's living, running, ready and waiting ones all counted.
@@ -98,8 +89,7 @@ impl Machine {
         requires { Good self }
         ensures { result ≡ living_of customer (view self) }
     {
-        let t = self.tables;
-        looks::living(t, customer)
+        looks::living(self.tables, customer)
     }
 
     // The sum of the accepted gaps, idle time of all processors and ended time.
@@ -107,17 +97,15 @@ impl Machine {
         requires { Good self }
         ensures { result ≡ sums (view self) }
     {
-        let t = self.tables;
-        looks::totals_of(t)
+        looks::totals_of(self.tables)
     }
 
     // Whether the machine runs on, "has halted or panicked".
     pub fn status(self) -> Status
         requires { Good self }
-        ensures { result ≡ standing (view self).status }
+        ensures { result ≡ (view self).status }
     {
-        let t = self.tables;
-        looks::status_of(t)
+        looks::status_of(self.tables)
     }
 
     // A processor's last clock reading, "that of the latest accepted event, or the start"; 0 where there is no such
@@ -126,8 +114,7 @@ impl Machine {
         requires { Good self }
         ensures { result ≡ (seat_of processor (view self)).last }
     {
-        let t = self.tables;
-        looks::last(t, processor)
+        looks::last(self.tables, processor)
     }
 
     // A processor's idle time; 0 where there is no such processor.
@@ -135,8 +122,7 @@ impl Machine {
         requires { Good self }
         ensures { result ≡ (seat_of processor (view self)).idle }
     {
-        let t = self.tables;
-        looks::idle(t, processor)
+        looks::idle(self.tables, processor)
     }
 
     // The id that the next newborn gets: "ids .. are never used again".
@@ -144,7 +130,6 @@ impl Machine {
         requires { Good self }
         ensures { result ≡ (view self).next }
     {
-        let t = self.tables;
-        t.next
+        self.tables.next
     }
 }

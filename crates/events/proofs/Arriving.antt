@@ -1,10 +1,13 @@
 -- An event at a processor, over tables alone: there is none, or the machine turns to it and back.
 -- Assumes nothing.
-use Rattle.std.proofs.Common.{◌≡◌, ℕ, zero, suc, ◌<◌, ◌≤◌, Bool, true, false, ltb, sym, refl, ap, ◌∙◌, subst, ap₂, arith, ltb-false, ltb-true, lt-ltb, if◌then◌else◌}
+use Rattle.std.proofs.Common.{◌≡◌, ℕ, ◌<◌, ◌≤◌, Bool, true, false, ltb, sym, refl, ap, ◌∙◌, subst, ap₂, arith, ltb-false, ltb-true, lt-ltb, if◌then◌else◌, Option, Some, None}
 use Rattle.rules.specs.declared.Event.{Event}
 use Rattle.rules.specs.declared.Answer.{Answer}
 use Rattle.rules.proofs.Cases.{or_true}
-use Rattle.rules.specs.Numbers.{base_slots, base_sems, base_customers, over, no_such_processor}
+use Rattle.rules.specs.Numbers.{base_slots, base_sems, base_customers}
+use Rattle.rules.specs.declared.Refusal.{Refusal}
+use Rattle.rules.specs.declared.Refusal.TheVariants.{Over, NoSuchProcessor}
+use Rattle.rules.specs.declared.Status.TheVariants.{On}
 use Rattle.rules.specs.Machine as book
 use Rattle.rules.specs.Machine.{processors, turn}
 use Rattle.rules.specs.Answers.{Outcome, refusing, plain}
@@ -19,7 +22,7 @@ use Rattle.tables.specs.declared.Settled.{Settled}
 use Rattle.tables.specs.View.{seat_at, view, Shape, Good}
 use Rattle.tables.specs.Promised.{Step, Comes}
 use Rattle.tables.proofs.Unique.{view_unique}
-use Rattle.events.specs.Promised.{Holds, at_processor, number_at, Answers}
+use Rattle.events.specs.Promised.{Holds, at_processor, refusal_at, Answers}
 use Rattle.events.proofs.Eventful.{stops, goes_on}
 
 -- how many processors there are, in the rule book and in the tables
@@ -34,16 +37,16 @@ pub holds_of : (m : Tables) (n : ℕ) → Shape m → rule.Tables base_slots bas
 holds_of m n g t = record { shape = g; tables = subst (λ (k : ℕ). rule.Tables base_slots base_sems base_customers k (view m)) (sym t.processors_there ∙ as_many m) t }
 
 -- a refused event leaves the rule book's machine as it was
-as_it_was : (k : ℕ) (e : Event) (m : book.Machine) → (number_at k e m ≡ 0 → ⊥) → (arrive m (at_processor k e)).after ≡ m
+as_it_was : (k : ℕ) (e : Event) (m : book.Machine) → (refusal_at k e m ≡ None → ⊥) → (arrive m (at_processor k e)).after ≡ m
 unfolding refused reaches
 as_it_was k e m told = go (ltb k (processors m)) refl
   where
-    by_number : k < processors m → (n : ℕ) → refusal (turn k m) e ≡ n → (arrive m (at_processor k e)).after ≡ m
-    by_number l zero h = absurd (told (rw (lt-ltb k (processors m) l, or_true (stopped m)) h))
-    by_number l (suc n) h = ap (λ (o : Outcome). o.after) (refused_at m (at_processor k e) n l h)
+    by_refusal : k < processors m → (o : Option Refusal) → refusal (turn k m) e ≡ o → (arrive m (at_processor k e)).after ≡ m
+    by_refusal l None h = absurd (told (rw (lt-ltb k (processors m) l, or_true (stopped m)) h))
+    by_refusal l (Some r) h = ap (λ (o : Outcome). o.after) (refused_at m (at_processor k e) r l h)
 
     go : (b : Bool) → ltb k (processors m) ≡ b → (arrive m (at_processor k e)).after ≡ m
-    go true q = by_number (ltb-true k (processors m) q) (refusal (turn k m) e) refl
+    go true q = by_refusal (ltb-true k (processors m) q) (refusal (turn k m) e) refl
     go false q = no_such m (at_processor k e) (ltb-false k (processors m) q)
 
 module _ (m : Tables) (g : Good m) (k : ℕ) (e : Event) (r : Settled) where
@@ -57,19 +60,19 @@ module _ (m : Tables) (g : Good m) (k : ℕ) (e : Event) (r : Settled) where
         good = good_of r.tables m.processors shape (subst (rule.Rests base_slots base_sems base_customers m.processors) after (rests base_slots base_sems base_customers m.processors (view m) (at_processor k e) g.rests));
       }
 
-  says_no : (n : ℕ) → arrive (view m) (at_processor k e) ≡ refused n (view m) → r.tables ≡ m → r.answer ≡ refusing n plain → Answers k e m r
+  says_no : (w : Refusal) → arrive (view m) (at_processor k e) ≡ refused w (view m) → r.tables ≡ m → r.answer ≡ refusing w plain → Answers k e m r
   unfolding refused
-  says_no n h same told = answers_by (h ∙ ap₂ (λ (a : Tables) (b : Answer). record { after = view a; answer = b }) (sym same) (sym told)) (subst Shape (sym same) g.shape)
+  says_no w h same told = answers_by (h ∙ ap₂ (λ (a : Tables) (b : Answer). record { after = view a; answer = b }) (sym same) (sym told)) (subst Shape (sym same) g.shape)
 
   -- 1 before 7
-  pub over_answers : (m.status ≡ 0 → ⊥) → r.tables ≡ m → r.answer ≡ refusing over plain → Answers k e m r
-  over_answers h = says_no over (over_at (view m) (at_processor k e) (stops m h))
+  pub over_answers : (m.status ≡ On → ⊥) → r.tables ≡ m → r.answer ≡ refusing Over plain → Answers k e m r
+  over_answers h = says_no Over (over_at (view m) (at_processor k e) (stops m h))
 
-  pub none_answers : m.status ≡ 0 → m.processors ≤ k → r.tables ≡ m → r.answer ≡ refusing no_such_processor plain → Answers k e m r
+  pub none_answers : m.status ≡ On → m.processors ≤ k → r.tables ≡ m → r.answer ≡ refusing NoSuchProcessor plain → Answers k e m r
   none_answers on past =
-      says_no no_such_processor (
+      says_no NoSuchProcessor (
       no_such_refused (view m) (at_processor k e) (omega (arith, as_many m, past))
-      ∙ ap (λ (b : Bool). refused (if b then over else no_such_processor) (view m)) (goes_on m on)
+      ∙ ap (λ (b : Bool). refused (if b then Over else NoSuchProcessor) (view m)) (goes_on m on)
       )
 
 -- there is such a processor: b is the machine turned to it

@@ -1,8 +1,10 @@
 -- What an event promises.
-use Rattle.std.specs.Prelude.{◌≡◌, ℕ, ◌≢◌, if◌then◌else◌}
+use Rattle.std.specs.Prelude.{◌≡◌, ℕ, ◌≢◌, Option, Some, None, if◌then◌else◌}
 use Rattle.rules.specs.declared.Event.{Event}
 use Rattle.rules.specs.declared.Arrival.{Arrival}
-use Rattle.rules.specs.Numbers.{base_slots, base_sems, base_customers, no_such_processor}
+use Rattle.rules.specs.declared.Refusal.{Refusal}
+use Rattle.rules.specs.declared.Refusal.TheVariants.{NoSuchProcessor}
+use Rattle.rules.specs.Numbers.{base_slots, base_sems, base_customers}
 use Rattle.rules.specs.Machine as book
 use Rattle.rules.specs.Machine.{turn}
 use Rattle.rules.specs.Rules.{refusal, reaches, arrive}
@@ -19,12 +21,12 @@ pub record Holds (m : Tables) : Type 0 where
 abbrev pub at_processor : ℕ → Event → Arrival
 at_processor k e = record { processor = k; event = e }
 
--- the number that an event at a processor is refused with, 0 where it is accepted
-abbrev pub number_at : ℕ → Event → book.Machine → ℕ
-number_at k e m = if reaches k m then refusal (turn k m) e else no_such_processor
+-- why an event at a processor is refused, none where it is accepted
+abbrev pub refusal_at : ℕ → Event → book.Machine → Option Refusal
+refusal_at k e m = if reaches k m then refusal (turn k m) e else Some NoSuchProcessor
 
 -- the rule book's answer and machine; where refused, the very same tables
 pub record Answers (k : ℕ) (e : Event) (m : Tables) (r : Settled) : Type 0 where
   pub seen : arrive (view m) (at_processor k e) ≡ record { after = view r.tables; answer = r.answer }
-  pub same : (number_at k e (view m) ≢ 0) → r.tables ≡ m
+  pub same : (refusal_at k e (view m) ≢ None) → r.tables ≡ m
   pub good : Good r.tables

@@ -1,12 +1,13 @@
 // One event: "tables and one event go in; new tables and the next action come out".
 #![tactic(auto)]
 
-ghost use Rattle.std.specs.Prelude.{◌≡◌, false, ◌&&◌, nat_le};
+ghost use Rattle.std.specs.Prelude.{◌≡◌, false, ◌&&◌, nat_le, Ok, Err, IfOk};
+ghost use Rattle.rules.specs.Words.{maybe};
 ghost use Rattle.rules.specs.Tables.{Sound};
 ghost use Rattle.rules.specs.Numbers.{base_slots, base_sems, base_customers};
 ghost use Rattle.rules.specs.Answers.{refusing, plain};
 ghost use Rattle.rules.specs.Machine.{turn};
-ghost use Rattle.rules.specs.Rules.{bad_line, needs_runner, perform, step, nothing_left};
+ghost use Rattle.rules.specs.Rules.{bad_line, needs_runner, perform, refusal, step, nothing_left};
 ghost use Rattle.tables.specs.View.{view, Shape, Good};
 ghost use Rattle.tables.specs.Promised.{Comes};
 ghost use Rattle.events.specs.Promised.{Holds, Answers};
@@ -14,24 +15,20 @@ ghost use Rattle.events.specs.Promised.{Holds, Answers};
 use crate::interrupts::{exception, interrupt};
 use answers::refusal;
 use calls::call;
-use rules::{
-    CLOCK_BACK, CUSTOMERS, Event, GAP, Mode, NO_SUCH_PROCESSOR, NOBODY_RUNS, OVER, SEMAPHORES,
-    TIME, TIME_FULL,
-};
+use rules::{CUSTOMERS, Event, GAP, Mode, Refusal, SEMAPHORES, Status, TIME};
 use std::num::wrapping_sub_u32;
-use tables::{ON, Settled, Tables};
-use verdicts::{clock_of, odd, unmanned};
+use tables::{Settled, Tables};
+use verdicts::{check, clock_of, unmanned};
 
 mod interrupts;
 
 // "The machine afterwards equals the machine before, last clock reading included."
-fn refused(t: Tables, number: u8) -> Settled
-    ensures { (result.tables ≡ t) × (result.answer ≡ refusing number plain) }
+fn refused(t: Tables, why: Refusal) -> Settled
+    ensures { (result.tables ≡ t) × (result.answer ≡ refusing why plain) }
 {
-    let answer = refusal(number);
     Settled {
         tables: t,
-        answer: answer,
+        answer: refusal(why),
     }
 }
 
@@ -42,21 +39,44 @@ fn perform(t: Tables, e: Event) -> Settled
 {
     match e {
         Event::Call {
-            clock: _,
             mode,
             a0,
             a1,
             a2,
             a3,
+            ..
         } => call(t, mode, a0, a1, a2, a3),
         Event::Interrupt {
-            clock: _,
             line,
             first,
             second,
+            ..
         } => interrupt(t, line, first, second),
-        Event::Exception { clock: _, code } => exception(t, code),
+        Event::Exception { code, .. } => exception(t, code),
     }
+}
+
+// "The first that applies is given": the rows of the table, in its order.
+fn verdict(t: &Tables, e: Event) -> Result<(), Refusal>
+    requires { Holds t.now }
+    ensures { result ≡ maybe (refusal (view t.now) e) (Ok tt) Err }
+{
+    if t.status != Status::On {
+        return Err(Refusal::Over);
+    }
+    check(e)?;
+    let gap = wrapping_sub_u32(clock_of(e), t.last);
+    if GAP <= gap {
+        return Err(Refusal::ClockBack);
+    }
+    let room = TIME - gap as u64;
+    if room < t.total {
+        return Err(Refusal::TimeFull);
+    }
+    if unmanned(e, t.running) {
+        return Err(Refusal::NobodyRuns);
+    }
+    Ok(())
 }
 
 // An event at the processor that is here.
@@ -64,27 +84,10 @@ fn at_hand(t: Tables, e: Event) -> Settled
     requires { Holds t }
     ensures { Comes (step (view t) e) result }
 {
-    if t.status != ON {
-        return refused(t, OVER);
+    if let Err(why) = verdict(&t, e) {
+        return refused(t, why);
     }
-    let number = odd(e);
-    if number != 0 {
-        return refused(t, number);
-    }
-    let now = clock_of(e);
-    let gap = wrapping_sub_u32(now, t.last);
-    if GAP <= gap {
-        return refused(t, CLOCK_BACK);
-    }
-    let room = TIME - gap as u64;
-    if room < t.total {
-        return refused(t, TIME_FULL);
-    }
-    let running = t.running;
-    if unmanned(e, running) {
-        return refused(t, NOBODY_RUNS);
-    }
-    let m = t.charge(now);
+    let m = t.charge(clock_of(e));
     perform(m, e)
 }
 
@@ -96,19 +99,17 @@ pub fn event(t: Tables, processor: u8, e: Event) -> Settled
 {
     let k = processor as usize;
     if t.processors <= k {
-        if t.status != ON {
-            return refused(t, OVER);
+        if t.status != Status::On {
+            return refused(t, Refusal::Over);
         }
-        return refused(t, NO_SUCH_PROCESSOR);
+        return refused(t, Refusal::NoSuchProcessor);
     }
     let there = t.turn(k);
     let done = at_hand(there, e);
     let m = done.tables;
-    let answer = done.answer;
-    let back = m.turn(k);
     Settled {
-        tables: back,
-        answer: answer,
+        tables: m.turn(k),
+        answer: done.answer,
     }
 }
 

@@ -1,7 +1,9 @@
 -- The ten calls by their numbers.
-use Rattle.std.specs.Prelude.{ℕ, suc, ltb, ℤ, pos, negsuc, if◌then◌else◌}
+use Rattle.std.specs.Prelude.{◌∷◌, [], ℤ, pos, negsuc, get_or, Option, Some, None}
+use Rattle.verdicts.specs.declared.Service.{Service}
+use Rattle.verdicts.specs.declared.Service.TheVariants.{Create, Terminate, Passeren, Verhogen, DoIo, CpuTime, WaitClock, Support, Identity, Yield}
 
--- the ten calls −1 to −10 are 1 to 10; any other a0 is 0
-abbrev pub call_code : ℤ → ℕ
-call_code (pos n) = 0
-call_code (negsuc n) = if ltb n 10 then suc n else 0
+-- the ten calls −1 to −10 in order; any other a0 is none
+abbrev pub call_code : ℤ → Option Service
+call_code (pos n) = None
+call_code (negsuc n) = get_or (Some Create ∷ Some Terminate ∷ Some Passeren ∷ Some Verhogen ∷ Some DoIo ∷ Some CpuTime ∷ Some WaitClock ∷ Some Support ∷ Some Identity ∷ Some Yield ∷ []) n None

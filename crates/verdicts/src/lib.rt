@@ -2,133 +2,100 @@
 // running, which call, whose child, and which sub-device.
 #![tactic(auto)]
 
-ghost use Rattle.std.specs.Prelude.{◌≡◌, false, ◌&&◌, ◌<◌, ◌≤◌, eqb, leb, if◌then◌else◌};
-ghost use Rattle.rules.specs.Numbers.{base_slots, sub_devices, no_such_line, no_such_code};
+ghost use Rattle.std.specs.Prelude.{◌≡◌, false, ◌&&◌, ◌<◌, ◌≤◌, eqb, leb, if◌then◌else◌, Ok, Err};
+ghost use Rattle.rules.specs.Numbers.{base_slots, sub_devices};
 ghost use Rattle.rules.specs.Machine.{child_of};
 ghost use Rattle.rules.specs.declared.Event.TheVariants.{Interrupt, Exception};
+ghost use Rattle.rules.specs.declared.Refusal.TheVariants.{NoSuchLine, NoSuchCode};
 ghost use Rattle.rules.specs.Rules.{clock, bad_line, bad_code, needs_runner, lowest_bit, sub_device};
 ghost use Rattle.verdicts.specs.Calls.{call_code};
 
-use rules::{Event, NO_SUCH_CODE, NO_SUCH_LINE, SLOTS};
+use rules::{Event, Refusal, SLOTS};
+
+// The ten calls, −1 to −10.
+#[derive(Clone, Copy, PartialEq, Eq)]
+pub enum Service {
+    Create,
+    Terminate,
+    Passeren,
+    Verhogen,
+    DoIo,
+    CpuTime,
+    WaitClock,
+    Support,
+    Identity,
+    Yield,
+}
 
 // "Each carries a 32-bit clock reading."
 pub fn clock_of(e: Event) -> u32
     ensures { result ≡ clock e }
 {
     match e {
-        Event::Call {
-            clock,
-            mode: _,
-            a0: _,
-            a1: _,
-            a2: _,
-            a3: _,
-        } => clock,
-        Event::Interrupt {
-            clock,
-            line: _,
-            first: _,
-            second: _,
-        } => clock,
-        Event::Exception { clock, code: _ } => clock,
+        Event::Call { clock, .. }
+        | Event::Interrupt { clock, .. }
+        | Event::Exception { clock, .. } => clock,
     }
 }
 
 // "line not 1 to 7; or line 3 to 6 with first byte zero; or line 7 with both zero"
-fn no_line(line: u8, first: u8, second: u8) -> u8
-    ensures { result ≡ (if bad_line (Interrupt 0 line first second) then no_such_line else 0) }
+#[tactic(auto, unfolding(rules::specs::Rules::bad_line))]
+fn check_line(line: u8, first: u8, second: u8) -> Result<(), Refusal>
+    ensures { result ≡ (if bad_line (Interrupt 0 line first second) then Err NoSuchLine else Ok tt) }
 {
-    if line < 1 {
-        return NO_SUCH_LINE;
+    match line {
+        1 | 2 => Ok(()),
+        3..=6 if first != 0 => Ok(()),
+        7 if first != 0 || second != 0 => Ok(()),
+        _ => Err(Refusal::NoSuchLine),
     }
-    if 7 < line {
-        return NO_SUCH_LINE;
-    }
-    if line < 3 {
-        return 0;
-    }
-    if first != 0 {
-        return 0;
-    }
-    if line < 7 {
-        return NO_SUCH_LINE;
-    }
-    if second == 0 {
-        return NO_SUCH_LINE;
-    }
-    0
 }
 
 // "exception code 8, 11 or above 28"
-fn no_code(code: u8) -> u8
-    ensures { result ≡ (if bad_code (Exception 0 code) then no_such_code else 0) }
+#[tactic(auto, unfolding(rules::specs::Rules::bad_code))]
+fn check_code(code: u8) -> Result<(), Refusal>
+    ensures { result ≡ (if bad_code (Exception 0 code) then Err NoSuchCode else Ok tt) }
 {
-    if code == 8 {
-        return NO_SUCH_CODE;
+    match code {
+        8 | 11 | 29.. => Err(Refusal::NoSuchCode),
+        _ => Ok(()),
     }
-    if code == 11 {
-        return NO_SUCH_CODE;
-    }
-    if 28 < code {
-        return NO_SUCH_CODE;
-    }
-    0
 }
 
-// Rows 5 and 6 of the table: what no machine takes. 0 where neither applies.
-pub fn odd(e: Event) -> u8
-    ensures { result ≡ (if bad_line e then no_such_line else (if bad_code e then no_such_code else 0)) }
+// Rows 5 and 6 of the table: what no machine takes.
+#[tactic(auto, unfolding(rules::specs::Rules::bad_line, rules::specs::Rules::bad_code))]
+pub fn check(e: Event) -> Result<(), Refusal>
+    ensures { result ≡ (if bad_line e then Err NoSuchLine else (if bad_code e then Err NoSuchCode else Ok tt)) }
 {
     match e {
-        Event::Call {
-            clock: _,
-            mode: _,
-            a0: _,
-            a1: _,
-            a2: _,
-            a3: _,
-        } => 0,
+        Event::Call { .. } => Ok(()),
         Event::Interrupt {
-            clock: _,
             line,
             first,
             second,
-        } => no_line(line, first, second),
-        Event::Exception { clock: _, code } => no_code(code),
+            ..
+        } => check_line(line, first, second),
+        Event::Exception { code, .. } => check_code(code),
     }
 }
 
 // "call, exception or line 1 while nobody is running"
+#[tactic(auto, unfolding(rules::specs::Rules::needs_runner))]
 pub fn unmanned(e: Event, running: usize) -> bool
     ensures { result ≡ (needs_runner e && leb base_slots running) }
 {
-    match e {
-        Event::Call {
-            clock: _,
-            mode: _,
-            a0: _,
-            a1: _,
-            a2: _,
-            a3: _,
-        } => SLOTS <= running,
-        Event::Interrupt {
-            clock: _,
-            line,
-            first: _,
-            second: _,
-        } => line == 1 && SLOTS <= running,
-        Event::Exception { clock: _, code: _ } => SLOTS <= running,
-    }
+    let needs_runner = match e {
+        Event::Interrupt { line, .. } => line == 1,
+        Event::Call { .. } | Event::Exception { .. } => true,
+    };
+    needs_runner && SLOTS <= running
 }
 
 // "a1 = 0 means the caller, otherwise an id"
 pub fn named(a1: u32, own: u32) -> u32
     ensures { result ≡ (if eqb a1 0 then own else a1) }
 {
-    if a1 == 0 {
-        return own;
-    }
-    a1
+    if a1 == 0 { own } else { a1 }
 }
 
 // "a2 / 256 names the child's"
@@ -138,45 +105,34 @@ const UNIT: u32 = 256;
 pub fn child_of(own: u8, a2: u32) -> u32
     ensures { result ≡ child_of own a2 }
 {
-    if own == 0 {
-        return a2 / UNIT;
-    }
-    own as u32
+    if own == 0 { a2 / UNIT } else { own as u32 }
 }
 
-// The call that an a0 from −1 to −10 names, and 0 for any other.
-pub fn call_code(a0: i32) -> u8
+// The call that an a0 from −1 to −10 names.
+pub fn call_code(a0: i32) -> Option<Service>
     ensures { result ≡ call_code a0 }
 {
     match a0 {
-        -1 => 1,
-        -2 => 2,
-        -3 => 3,
-        -4 => 4,
-        -5 => 5,
-        -6 => 6,
-        -7 => 7,
-        -8 => 8,
-        -9 => 9,
-        -10 => 10,
-        _ => 0,
+        -1 => Some(Service::Create),
+        -2 => Some(Service::Terminate),
+        -3 => Some(Service::Passeren),
+        -4 => Some(Service::Verhogen),
+        -5 => Some(Service::DoIo),
+        -6 => Some(Service::CpuTime),
+        -7 => Some(Service::WaitClock),
+        -8 => Some(Service::Support),
+        -9 => Some(Service::Identity),
+        -10 => Some(Service::Yield),
+        _ => None,
     }
 }
 
 // The number of the lowest bit set, 8 where none is.
+#[tactic(auto, using(crate::proofs::Tests::lowest))]
 fn lowest_bit(byte: u8) -> u8
     ensures { result ≡ lowest_bit 8 byte }
 {
-    let mut k = 0;
-    let mut left = byte;
-    while k < 8 {
-        if left % 2 == 1 {
-            return k;
-        }
-        left = left / 2;
-        k += 1;
-    }
-    k
+    byte.trailing_zeros() as u8
 }
 
 // "The lowest pending device number; on line 7 transmission before receipt of that device."

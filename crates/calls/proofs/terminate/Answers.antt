@@ -1,10 +1,10 @@
 -- `terminate` meets its contract.
+use Rattle.std.specs.Prelude.{Some}
 use mathlib.Core.Path.{◌≡◌, sym, ◌∙◌}
 use Prim.Native.Nat.{ℕ, ◌<◌}
 use native.Mathlib.Omega.{arith}
 use Rattle.rules.specs.Numbers.{base_slots}
 use Rattle.lines.specs.Lines.{first_where, is_id}
-use Rattle.lines.specs.declared.Found.TheVariants.{At}
 use Rattle.lines.proofs.Laws.{first_in}
 use Rattle.calls.proofs.Naming.{named_pos, ends_nobody, ends_forbidden, ends_other, ends_caller}
 use Rattle.calls.proofs.terminate.Goals as goal
@@ -17,16 +17,16 @@ returns-in_default c =
 
 pub may_name-requires : goal.may_name-requires
 may_name-requires c =
-    let slot : ℕ = c.in-At.target in
-    let found : first_where (is_id c.named-id.result) 0 c.args.t.ids ≡ At slot = sym c.find_id.ensures ∙ c.in-At.is in
+    let slot : ℕ = c.in-Some.target in
+    let found : first_where (is_id c.named-id.result) 0 c.args.t.ids ≡ Some slot = sym c.find_id.ensures ∙ c.in-Some.is in
     let in_slots : slot < base_slots = omega (arith, first_in (is_id c.named-id.result) c.args.t.ids 0 slot found, c.requires.0.ids_long) in
     let g = c.requires.0 in
     (g.ids_long, g.parents_long, g.customers_long, c.requires.1, in_slots, g.parent)
 
 pub returns-then-not-may_name : goal.returns-then-not-may_name
 returns-then-not-may_name c =
-    let slot : ℕ = c.in-At.target in
-    let found : first_where (is_id c.named-id.result) 0 c.args.t.ids ≡ At slot = sym c.find_id.ensures ∙ c.in-At.is in
+    let slot : ℕ = c.in-Some.target in
+    let found : first_where (is_id c.named-id.result) 0 c.args.t.ids ≡ Some slot = sym c.find_id.ensures ∙ c.in-Some.is in
     let n = c.named-id in
     let r = c.replies-then-not-may_name in
     ends_forbidden c.args.t c.requires.0 c.requires.1 c.args.a1 n.result n.ensures slot found (sym c.may_name.ensures ∙ c.if-not-may_name.true) r.result r.ensures
@@ -38,8 +38,8 @@ kill-k-requires c =
 
 pub returns-then-m-lt-SLOTS : goal.returns-then-m-lt-SLOTS
 returns-then-m-lt-SLOTS c =
-    let slot : ℕ = c.in-At.target in
-    let found : first_where (is_id c.named-id.result) 0 c.args.t.ids ≡ At slot = sym c.find_id.ensures ∙ c.in-At.is in
+    let slot : ℕ = c.in-Some.target in
+    let found : first_where (is_id c.named-id.result) 0 c.args.t.ids ≡ Some slot = sym c.find_id.ensures ∙ c.in-Some.is in
     let n = c.named-id in
     let d = c.kill-k in
     let x = c.ends-x in
@@ -48,8 +48,8 @@ returns-then-m-lt-SLOTS c =
 
 pub returns : goal.returns
 returns c =
-    let slot : ℕ = c.in-At.target in
-    let found : first_where (is_id c.named-id.result) 0 c.args.t.ids ≡ At slot = sym c.find_id.ensures ∙ c.in-At.is in
+    let slot : ℕ = c.in-Some.target in
+    let found : first_where (is_id c.named-id.result) 0 c.args.t.ids ≡ Some slot = sym c.find_id.ensures ∙ c.in-Some.is in
     let n = c.named-id in
     let d = c.kill-k in
     let x = c.ends-x-2 in
