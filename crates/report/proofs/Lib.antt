@@ -1,6 +1,5 @@
 -- Laws that the proofs of several functions cite:
 pub mod Laws
-pub mod Signs
 pub mod Known
 -- What follows of the lines, for their readers:
 pub mod Decimal

@@ -1,0 +1,2 @@
+-- What the test of a start answers.
+pub mod Verdict
