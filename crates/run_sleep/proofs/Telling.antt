@@ -8,9 +8,9 @@ use Rattle.sleeps.specs.declared.Answer.{Answer}
 use Rattle.sleeps.specs.declared.Operation.{Operation}
 use Rattle.sleeps.specs.Rules.{State, nobody, step}
 use Rattle.sleeping.specs.Promised.{told}
-use Rattle.sleep_text.specs.declared.Parsed.{Parsed}
-use Rattle.sleep_text.specs.declared.Parsed.TheVariants.{Means}
-use Rattle.sleep_text.specs.Lines.{parsed, line_of}
+use Rattle.std.specs.declared.option.Option.TheVariants.{Some}
+use Rattle.std.specs.declared.result.Result.TheVariants.{Ok}
+use Rattle.sleep_text.specs.Lines.{Parsed, parsed, line_of}
 use Rattle.sleep_text.specs.Answers.{answer_line}
 use Rattle.run_sleep.specs.Said.{reply_line, is_gap, line_said, said_from, said}
 
@@ -19,7 +19,7 @@ as_replied : (n : ℕ) (a : Answer) → answer_line n a ≡ reply_line n (told a
 unfolding answer_line reply_line
 as_replied n a = refl
 
-pub said_bytes : (p : Parsed) (o : Operation) (s : State) (n : ℕ) (a : Answer) → p ≡ Means o → is_gap o ≡ false → told a ≡ (step o s).reply
+pub said_bytes : (p : Parsed) (o : Operation) (s : State) (n : ℕ) (a : Answer) → p ≡ Ok (Some o) → is_gap o ≡ false → told a ≡ (step o s).reply
     → answer_line (n + 1) a ≡ (line_said p s n).bytes
 said_bytes p o s n a e f t = rw (e, f) (as_replied (n + 1) a ∙ ap (reply_line (n + 1)) t)
 

@@ -1,5 +1,5 @@
 -- THE TEXT of the program: all that it writes of a text of lines, and how it ends.
-use Rattle.std.specs.Prelude.{◌≡◌, Bool, true, false, List, [], ◌∷◌, ◌++◌, ℕ, zero, suc, ◌+◌, ◌-◌, leb, length, take, drop, if◌then◌else◌}
+use Rattle.std.specs.Prelude.{◌≡◌, Bool, true, false, List, [], ◌∷◌, ◌++◌, ℕ, zero, suc, ◌+◌, ◌-◌, leb, length, take, drop, Some, None, Ok, Err, if◌then◌else◌}
 use Rattle.std.specs.Io.KnownBytes.{Keeps, Appends}
 use Rattle.std.specs.declared.option.Option.{Option}
 use Rattle.report.specs.Text.{newline, space, decimal}
@@ -7,12 +7,10 @@ use Rattle.words.specs.Texts.{line_at, nth}
 use Rattle.words.specs.Complaints.{complaint}
 use Rattle.sleeps.specs.declared.Operation.{Operation}
 use Rattle.sleeps.specs.declared.Operation.TheVariants.{Gap, Ask, Tick, End}
+use Rattle.sleeps.specs.Numbers.{told_number}
 use Rattle.sleeps.specs.Rules.{State, Reply, nobody, step}
-use Rattle.sleep_text.specs.declared.Parsed.{Parsed}
-use Rattle.sleep_text.specs.declared.Parsed.TheVariants.{Blank, Means, Bad}
-use Rattle.sleep_text.specs.declared.Verdict.{Verdict}
-use Rattle.sleep_text.specs.declared.Verdict.TheVariants.{Fine, Wrong}
-use Rattle.sleep_text.specs.Lines.{parsed, line_of, bad_from, wanted_text}
+use Rattle.sleep_text.specs.declared.Bad.{Bad}
+use Rattle.sleep_text.specs.Lines.{Parsed, Verdict, parsed, line_of, bad_from, wanted_text}
 use Rattle.sleep_text.specs.Answers.{word_of, spelt}
 use Rattle.run_sleep.specs.declared.Ending.{Ending}
 use Rattle.run_sleep.specs.declared.Ending.TheVariants.{Answered, Told, Unwritten, ReaderGone}
@@ -21,7 +19,7 @@ use Rattle.run_sleep.specs.declared.Ending.TheVariants.{Answered, Told, Unwritte
 
 -- "N REFUSAL WORD [U ..]", and a newline: the rule book's reply as a line
 unfoldable pub reply_line : ℕ → Reply → List ℕ
-reply_line n r = decimal n ++ ((space ∷ decimal r.refusal) ++ ((space ∷ []) ++ (word_of r.refusal r.follows ++ (spelt r.woken ++ (newline ∷ [])))))
+reply_line n r = decimal n ++ ((space ∷ decimal (told_number r.refusal)) ++ ((space ∷ []) ++ (word_of r.refusal r.follows ++ (spelt r.woken ++ (newline ∷ [])))))
 
 -- after a line: the sleepers, how many answers were written, and what the line wrote
 pub record Said : Type 0 where
@@ -45,9 +43,9 @@ operation_said o s n =
     else record { after = (step o s).after; number = n + 1; bytes = reply_line (n + 1) (step o s).reply }
 
 abbrev pub line_said : Parsed → State → ℕ → Said
-line_said Blank s n = silent s n
-line_said (Means o) s n = operation_said o s n
-line_said (Bad k w) s n = silent s n
+line_said (Ok None) s n = silent s n
+line_said (Ok (Some o)) s n = operation_said o s n
+line_said (Err b) s n = silent s n
 
 -- line after line from a place of the text on (f, the most lines that there can be, only shows that this ends)
 unfoldable pub said_from : ℕ → List ℕ → ℕ → State → ℕ → List ℕ
@@ -66,17 +64,15 @@ abbrev pub verdict : List ℕ → Verdict
 verdict text = bad_from (length text) text 0 1
 
 abbrev pub is_wrong : Verdict → Bool
-is_wrong Fine = false
-is_wrong (Wrong number from to said) = true
+is_wrong (Ok u) = false
+is_wrong (Err w) = true
 
-abbrev pub line_complaint : ℕ → List ℕ → Parsed → List ℕ
-line_complaint number line Blank = []
-line_complaint number line (Means o) = []
-line_complaint number line (Bad k w) = complaint number (nth line k) (wanted_text w)
+abbrev pub line_complaint : ℕ → List ℕ → Bad → List ℕ
+line_complaint number line b = complaint number (nth line b.word) (wanted_text b.wanted)
 
 abbrev pub complaint_of : List ℕ → Verdict → List ℕ
-complaint_of text Fine = []
-complaint_of text (Wrong number from to said) = line_complaint number (take (to - from) (drop from text)) said
+complaint_of text (Ok u) = []
+complaint_of text (Err w) = line_complaint w.number (take (w.to - w.from) (drop w.from text)) w.bad
 
 -- ── The whole ──
 

@@ -12,8 +12,7 @@ ghost use Rattle.sleep_text.specs.Lines.{wanted_text};
 ghost use Rattle.sleep_text.specs.Answers.{answer_line};
 ghost use Rattle.run_sleep.specs.Said.{is_gap, line_said, said, Ends};
 
-use report::Written;
-use sleep_text::{Parsed, Verdict, Wanted};
+use sleep_text::Bad;
 use sleeps::{Answer, Operation, Sleepers};
 use std::io;
 use std::io::Write;
@@ -50,7 +49,7 @@ fn say<W: Write>(out: &mut W, number: u64, answer: Answer) -> io::Result<()>
 {
     let mut line = [0u8; LINE];
     let written = sleep_text::write_answer(&mut line, number, answer);
-    let Written::Bytes(n) = written else {
+    let Some(n) = written else {
         unreachable!();
     };
     out.write_all(&line[..n])
@@ -60,22 +59,22 @@ fn say<W: Write>(out: &mut W, number: u64, answer: Answer) -> io::Result<()>
 fn is_gap(operation: Operation) -> bool
     ensures { result ≡ is_gap operation }
 {
-    match operation {
-        Operation::Gap(_) => true,
-        Operation::Ask(_, _) => false,
-        Operation::Tick => false,
-        Operation::End(_) => false,
-    }
+    matches!(operation, Operation::Gap(_))
 }
 
 // What a line says is done, and answered.
-fn turn<W: Write>(out: &mut W, sleepers: Sleepers, parsed: Parsed, number: u64) -> io::Result<Going>
+fn turn<W: Write>(
+    out: &mut W,
+    sleepers: Sleepers,
+    parsed: Result<Option<Operation>, Bad>,
+    number: u64,
+) -> io::Result<Going>
     requires { Good sleepers × (number + 1 ≤ 18446744073709551615) }
     ensures good { IfOk result (λ going. Good going.sleepers × (going.number ≤ number + 1)) }
     ensures after { IfOk result (λ going. (view going.sleepers ≡ (line_said parsed (view sleepers) number).after) × (going.number ≡ (line_said parsed (view sleepers) number).number)) }
     ensures bytes { OnOk result (Appends (W.contents out.old) (W.contents out.new) (line_said parsed (view sleepers) number).bytes) }
 {
-    let Parsed::Means(operation) = parsed else {
+    let Ok(Some(operation)) = parsed else {
         return Ok(Going { sleepers, number });
     };
     let done = sleeping::step(sleepers, operation);
@@ -109,6 +108,7 @@ fn answer<W: Write>(out: &mut W, text: &[u8]) -> io::Result<()>
     let mut sleepers = sleeping::fresh();
     let mut number = 0;
     let mut at = 0;
+    // A `while`, since a place goes on by a line: that is no index of a list that is there to be walked.
     while at < text.len() {
         let line = line_in(text, at);
         let parsed = sleep_text::parse(&text[at..line.end]);
@@ -121,18 +121,12 @@ fn answer<W: Write>(out: &mut W, text: &[u8]) -> io::Result<()>
 }
 
 // The one line about a bad line.
-fn complain<E: Write>(
-    err: &mut E,
-    number: u64,
-    line: &[u8],
-    k: usize,
-    wanted: Wanted,
-) -> io::Result<()>
-    ensures { OnOk result (Appends (E.contents err.old) (E.contents err.new) (complaint number (nth line.now k) (wanted_text wanted))) }
+fn complain<E: Write>(err: &mut E, number: u64, line: &[u8], bad: Bad) -> io::Result<()>
+    ensures { OnOk result (Appends (E.contents err.old) (E.contents err.new) (complaint number (nth line.now bad.word) (wanted_text bad.wanted))) }
 {
     let mut said = [0u8; LINE];
-    let written = sleep_text::complain_of(&mut said, number, line, k, wanted);
-    let Written::Bytes(n) = written else {
+    let written = sleep_text::complain_of(&mut said, number, line, bad);
+    let Some(n) = written else {
         unreachable!();
     };
     err.write_all(&said[..n])
@@ -142,18 +136,8 @@ fn complain<E: Write>(
 fn go<W: Write, E: Write>(out: &mut W, err: &mut E, text: &[u8]) -> io::Result<Ending>
     ensures { IfOk result (λ ending. Ends ending text.now (W.contents out.old) (W.contents out.new) (E.contents err.old) (E.contents err.new)) }
 {
-    let verdict = sleep_text::first_bad(text);
-    if let Verdict::Wrong {
-        number,
-        from,
-        to,
-        said,
-    } = verdict
-    {
-        let Parsed::Bad(k, wanted) = said else {
-            unreachable!();
-        };
-        complain(err, number, &text[from..to], k, wanted)?;
+    if let Err(wrong) = sleep_text::first_bad(text) {
+        complain(err, wrong.number, &text[wrong.from..wrong.to], wrong.bad)?;
         return Ok(Ending::Told);
     }
     match answer(out, text) {

@@ -1,16 +1,18 @@
 -- The pair taken apart: the desk goes its way as if it were alone, and the sleepers theirs, by what they are told.
 -- Assumes nothing.
-use Rattle.std.proofs.Common.{◌≡◌, ℕ, ◌+◌, leb, List, [], ◌∷◌, ◌++◌, sym, refl, ap, ◌∙◌, arith}
+use Rattle.std.proofs.Common.{◌≡◌, Option, Some, None, ℕ, ◌+◌, leb, List, [], ◌∷◌, ◌++◌, sym, refl, ap, ◌∙◌, arith}
 use Rattle.rules.specs.declared.Event.{Event}
 use Rattle.rules.specs.declared.Arrival.{Arrival}
 use Rattle.rules.specs.declared.Action.{Action}
 use Rattle.rules.specs.declared.Answer.{Answer}
 use Rattle.rules.specs.Words.{sum, Single}
-use Rattle.rules.specs.Numbers.{time_limit, time_full}
+use Rattle.rules.specs.Numbers.{time_limit}
 use Rattle.rules.specs.Rules as desk
 use Rattle.rules.specs.Rules.{arrive}
 use Rattle.rules.proofs.Cases.{if_cases}
 use Rattle.sleeps.specs.declared.Operation.{Operation}
+use Rattle.sleeps.specs.declared.Refusal.{Refusal}
+use Rattle.sleeps.specs.declared.Refusal.TheVariants.{TimeFull}
 use Rattle.sleeps.specs.declared.Follows.TheVariants.{Nothing}
 use Rattle.sleeps.specs.Rules as sleeps
 use Rattle.sleeps.specs.Rules.{State, Reply, Outcome, pass, step}
@@ -67,7 +69,7 @@ asked_one u e a = asked_cases (λ os. Single os) u e a (λ a1. refl) refl tt
 
 -- f counts nothing of an answer in which nobody is woken and nothing follows
 abbrev pub Silent : (Reply → ℕ) → Type 0
-Silent f = (n : ℕ) → f (record { refusal = n; follows = Nothing; woken = [] }) ≡ 0
+Silent f = (r : Option Refusal) → f (record { refusal = r; follows = Nothing; woken = [] }) ≡ 0
 
 module _ (f : Reply → ℕ) (silent : Silent f) where
   -- of a gap and one operation more the last answer counts for both
@@ -78,19 +80,19 @@ module _ (f : Reply → ℕ) (silent : Silent f) where
 
   gap_silent : (g : ℕ) (s : State) → f (pass g s).reply ≡ 0
   unfolding pass
-  gap_silent g s = if_cases (λ (o : Outcome). f o.reply ≡ 0) (leb (s.sum + g) time_limit) (λ _. silent 0) (λ _. silent time_full)
+  gap_silent g s = if_cases (λ (o : Outcome). f o.reply ≡ 0) (leb (s.sum + g) time_limit) (λ _. silent None) (λ _. silent (Some TimeFull))
 
   last_two : (k g : ℕ) (ys : List Operation) (s : State) → Single ys → sum f (sleeps.replies (gap_told k g ++ ys) s) ≡ f (through (gap_told k g ++ ys) (quiet s)).reply
   unfolding sleeps.replies through step
   last_two k g ys s h =
       gap_cases (λ os. sum f (sleeps.replies (os ++ ys) s) ≡ f (through (os ++ ys) (quiet s)).reply) k g
-      (λ _. omega (arith, gap_silent g s, last_one ys (pass g s) h (gap_silent g s))) (λ _. last_one ys (quiet s) h (silent 0))
+      (λ _. omega (arith, gap_silent g s, last_one ys (pass g s) h (gap_silent g s))) (λ _. last_one ys (quiet s) h (silent None))
 
   heard_once : (u g : ℕ) (x : Arrival) (a : Answer) (s : State) → sum f (sleeps.replies (heard u x g a) s) ≡ f (through (heard u x g a) (quiet s)).reply
   unfolding sleeps.replies through
   heard_once u g x a s =
       heard_cases (λ os. sum f (sleeps.replies os s) ≡ f (through os (quiet s)).reply) u g x a
-      (λ _. last_two x.processor g (asked u x.event a.action) s (asked_one u x.event a.action)) (λ _. sym (silent 0))
+      (λ _. last_two x.processor g (asked u x.event a.action) s (asked_one u x.event a.action)) (λ _. sym (silent None))
 
   -- whatever f counts in the answers that the host gets, it counts in those of the operations
   pub counted : (hs : List Happening) (p : Pair) → sum f (replies hs p) ≡ sum f (sleeps.replies (operations hs p.machine) p.sleepers)

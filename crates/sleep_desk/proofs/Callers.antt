@@ -1,6 +1,6 @@
 -- What is promised of the pair, said of whoever calls `event` and `sleeping::end` again and again.
 -- Assumes nothing.
-use Rattle.std.proofs.Common.{◌≡◌, ℕ, ◌+◌, List, ◌∷◌, map, length, sym, refl, ap, ◌∙◌, subst, ap₂, arith}
+use Rattle.std.proofs.Common.{None, ◌≡◌, ℕ, ◌+◌, List, ◌∷◌, map, length, sym, refl, ap, ◌∙◌, subst, ap₂, arith}
 use Rattle.rules.specs.declared.Answer as desk
 use Rattle.rules.specs.declared.Event.{Event}
 use Rattle.rules.specs.Numbers.{base_slots}
@@ -57,7 +57,7 @@ follows {p} g (ended {hs} n t c f) =
 
 -- any start that is accepted, sleepers of whom nobody sleeps, any results that meet the promises one after the other
 pub lawful : (number now : ℕ) (values ceilings : List ℕ) (hs : List Happening) (s : Started) (z : Sleepers) {q : Pair} {ds : List desk.Answer} {ss : List sleeps.Answer}
-    → start_refusal base_slots number values ceilings ≡ 0 → Starts now values ceilings number s → sleeping.Good z → sleeping.view z ≡ nobody
+    → start_refusal base_slots number values ceilings ≡ None → Starts now values ceilings number s → sleeping.Good z → sleeping.view z ≡ nobody
     → Follows (record { machine = s.machine; sleepers = z }) hs q ds ss → Lawful number now values ceilings hs q ds ss
 lawful number now values ceilings hs s z {q} {ds} {ss} ok t g e f =
     let m = start base_slots number now values ceilings in

@@ -1,13 +1,14 @@
 -- A day of a gateway with two processors, proved by computing.
 -- Assumes nothing.
-use Rattle.std.proofs.Common.{◌≡◌, ℕ, ◌-◌, ◌^◌, List, [], ◌∷◌, map, pos, refl}
+use Rattle.std.proofs.Common.{◌≡◌, Option, Some, None, ℕ, ◌-◌, ◌^◌, List, [], ◌∷◌, map, pos, refl}
 use Rattle.rules.specs.declared.Mode.TheVariants.{User}
 use Rattle.rules.specs.declared.Event.{Event}
 use Rattle.rules.specs.declared.Event.TheVariants.{Call, Interrupt}
-use Rattle.rules.specs.Numbers.{over, clock_back, no_such_processor}
+use Rattle.rules.specs.declared.Refusal.TheVariants.{Over, ClockBack, NoSuchProcessor}
 use Rattle.rules.specs.Rules.{start, rule_book}
 use Rattle.rules.proofs.Examples.{call}
-use Rattle.sleeps.specs.Numbers.{no_such_proc}
+use Rattle.sleeps.specs.declared.Refusal.{Refusal}
+use Rattle.sleeps.specs.declared.Refusal.TheVariants.{NoSuchProc}
 use Rattle.sleeps.specs.declared.Follows.{Follows}
 use Rattle.sleeps.specs.declared.Follows.TheVariants.{Nothing, Sleeps, Ends, Wakes, Ended}
 use Rattle.sleeps.specs.Rules.{Reply, nobody, insert, pass, ask, tick, end, step}
@@ -25,11 +26,11 @@ sleep now a1 = Call now User (pos 18) a1 0 0
 clock_tick : ℕ → Event
 clock_tick now = Interrupt now 2 0 0
 
-says : ℕ → Follows → List ℕ → Reply
-says n f ns = record { refusal = n; follows = f; woken = ns }
+says : Option Refusal → Follows → List ℕ → Reply
+says r f ns = record { refusal = r; follows = f; woken = ns }
 
 quiet : Reply
-quiet = says 0 Nothing []
+quiet = says None Nothing []
 
 begun : Pair
 begun = record { machine = start 8 2 0 [] (8 ∷ []); sleepers = nobody }
@@ -51,7 +52,7 @@ morning =
     ∷ on 1 0 (clock_tick 1000021)
     ∷ []
 
-morning_heard : replies morning begun ≡ quiet ∷ quiet ∷ quiet ∷ says 0 Sleeps [] ∷ quiet ∷ quiet ∷ says 0 Sleeps [] ∷ says 0 Wakes (3 ∷ 5 ∷ []) ∷ []
+morning_heard : replies morning begun ≡ quiet ∷ quiet ∷ quiet ∷ says None Sleeps [] ∷ quiet ∷ quiet ∷ says None Sleeps [] ∷ says None Wakes (3 ∷ 5 ∷ []) ∷ []
 unfolding rule_book replies serve heard through step pass ask tick end insert on sleep clock_tick says quiet begun morning
 morning_heard = refl
 
@@ -75,11 +76,11 @@ evening =
     ∷ []
 
 evening_heard : replies evening (run morning begun)
-    ≡ quiet ∷ quiet ∷ says no_such_proc Nothing [] ∷ says 0 Ends [] ∷ says 0 Sleeps [] ∷ says 0 Ended [] ∷ says 0 Sleeps [] ∷ quiet ∷ quiet ∷ quiet ∷ quiet ∷ []
+    ≡ quiet ∷ quiet ∷ says (Some NoSuchProc) Nothing [] ∷ says None Ends [] ∷ says None Sleeps [] ∷ says None Ended [] ∷ says None Sleeps [] ∷ quiet ∷ quiet ∷ quiet ∷ quiet ∷ []
 unfolding rule_book run replies serve heard through step pass ask tick end insert on sleep clock_tick says quiet begun morning evening
 evening_heard = refl
 
-evening_refused : map (λ a. a.refusal) (answers evening (run morning begun)) ≡ clock_back ∷ no_such_processor ∷ 0 ∷ 0 ∷ 0 ∷ 0 ∷ 0 ∷ 0 ∷ 0 ∷ over ∷ []
+evening_refused : map (λ a. a.refusal) (answers evening (run morning begun)) ≡ Some ClockBack ∷ Some NoSuchProcessor ∷ None ∷ None ∷ None ∷ None ∷ None ∷ None ∷ None ∷ Some Over ∷ []
 unfolding rule_book run answers serve heard through step pass ask tick end insert on sleep clock_tick begun morning evening
 evening_refused = refl
 

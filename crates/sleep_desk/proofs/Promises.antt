@@ -1,6 +1,6 @@
 -- WHAT IS PROMISED OF THE DESK WITH ITS SLEEPERS, over any list of what happens, refused events included.
 -- Assumes nothing.
-use Rattle.std.proofs.Common.{◌≡◌, ℕ, ◌+◌, ◌≤◌, List, [], length, sym, refl, ap, subst, arith}
+use Rattle.std.proofs.Common.{None, ◌≡◌, ℕ, ◌+◌, ◌≤◌, List, [], length, sym, refl, ap, subst, arith}
 use Rattle.rules.specs.Words.{count}
 use Rattle.rules.specs.Starts.{start_refusal}
 use Rattle.rules.specs.Machine.{Machine}
@@ -67,7 +67,7 @@ module _ (m : Machine) (hs : List Happening) where
 
 -- "Sleep is timed by processor 0's gaps alone": the sum is that of the accepted gaps there, as events and answers tell
 -- them, and all of them have passed
-pub timed : (slots number at : ℕ) (values ceilings : List ℕ) (hs : List Happening) → slots ≤ mask_bits → start_refusal slots number values ceilings ≡ 0
+pub timed : (slots number at : ℕ) (values ceilings : List ℕ) (hs : List Happening) → slots ≤ mask_bits → start_refusal slots number values ceilings ≡ None
     → let m = start slots number at values ceilings in
     (run hs (record { machine = m; sleepers = nobody })).sleepers.sum ≡ tally_at timing_processor accepted_gap (beginning number at) (arrivals hs) (rules.answers m (arrivals hs))
 unfolding rules.run

@@ -1,12 +1,12 @@
 -- What each function of this crate leaves to show, over plain values.
 -- Assumes nothing.
-use Rattle.std.proofs.Common.{◌≡◌, ℕ, ◌+◌, ◌%◌, ◌^◌, ◌<◌, Bool, true, false, ◌&&◌, ltb, List, [], ◌∷◌, ◌++◌, get_or, ℤ, pos, negsuc, sym, refl, ap, ◌∙◌, subst, true≢false, arith, to_z-of_z, w32, SFits, to_z, of_z, ltb-false, ltb-true, eq-eqb, ne_eqb, eqb-true, if◌then◌else◌}
-use borrow.Author.Tests.{eqb-false}
+use Rattle.std.proofs.Common.{◌≡◌, Option, Some, None, ℕ, ◌+◌, ◌%◌, ◌^◌, ◌<◌, Bool, true, false, ◌&&◌, ltb, List, [], ◌∷◌, ◌++◌, get_or, ℤ, pos, negsuc, sym, refl, ap, ◌∙◌, subst, true≢false, arith, to_z-of_z, w32, SFits, to_z, of_z, ltb-false, ltb-true, eq-eqb, ne_eqb, eqb-true, if◌then◌else◌}
+use Rattle.std.specs.Option.{is_some, is_none}
 use Rattle.rules.specs.declared.Event.{Event}
 use Rattle.rules.specs.declared.Arrival.{Arrival}
 use Rattle.rules.specs.declared.Action.{Action}
 use Rattle.rules.specs.declared.Answer.{Answer}
-use Rattle.rules.specs.Numbers.{over, no_such_processor}
+use Rattle.rules.specs.declared.Refusal.TheVariants.{Over, NoSuchProcessor}
 use Rattle.rules.specs.Machine as desk
 use Rattle.rules.specs.Machine.{blank, processors, gap, turn}
 use Rattle.rules.specs.Answers as answers
@@ -53,6 +53,16 @@ pub no_sleep : (a : ℤ) → (of_z w32 a ≡ sleep_call → ⊥) → asks_sleep 
 no_sleep (pos n) h = ne_eqb n sleep_call h
 no_sleep (negsuc n) h = refl
 
+-- ── Whether there is a refusal ──
+
+pub is_none_is : {A : Type 0} (r : Option A) → is_none r ≡ true → r ≡ None
+is_none_is None h = refl
+is_none_is (Some x) h = absurd (true≢false (sym h))
+
+pub no_some : {A : Type 0} (r : Option A) → is_some r ≡ false → r ≡ None
+no_some None h = refl
+no_some (Some x) h = absurd (true≢false h)
+
 -- ── Each way through ──
 
 module _ (o : Outcome) where
@@ -80,15 +90,15 @@ module _ (o : Outcome) where
   unfolding through step
   a_tick n h = rw (eq-eqb n tick_line h)
 
-  pub refused_tells : (u g : ℕ) (x : Arrival) (a : Answer) → (a.refusal ≡ 0 → ⊥) → through (heard u x g a) o ≡ o
+  pub refused_tells : (u g : ℕ) (x : Arrival) (a : Answer) → (a.refusal ≡ None → ⊥) → through (heard u x g a) o ≡ o
   unfolding through
-  refused_tells u g x a h = heard_cases (λ os. through os o ≡ o) u g x a (λ e. absurd (h (eqb-true a.refusal 0 e))) (λ _. refl)
+  refused_tells u g x a h = heard_cases (λ os. through os o ≡ o) u g x a (λ e. absurd (h (is_none_is a.refusal e))) (λ _. refl)
 
-  pub accepted_tells : (u g : ℕ) (x : Arrival) (a : Answer) → a.refusal ≡ 0 → through (heard u x g a) o ≡ through (asked u x.event a.action) (through (gap_told x.processor g) o)
+  pub accepted_tells : (u g : ℕ) (x : Arrival) (a : Answer) → a.refusal ≡ None → through (heard u x g a) o ≡ through (asked u x.event a.action) (through (gap_told x.processor g) o)
   accepted_tells u g x a h =
       let gap = gap_told x.processor g in
       let more = asked u x.event a.action in
-      heard_cases (λ os. through os o ≡ through more (through gap o)) u g x a (λ _. through_append gap more o) (λ e. absurd (eqb-false a.refusal 0 e h))
+      heard_cases (λ os. through os o ≡ through more (through gap o)) u g x a (λ _. through_append gap more o) (λ e. absurd (true≢false (sym (ap is_none h) ∙ e)))
 
 -- ── The gap ──
 
@@ -97,7 +107,7 @@ pub there : (m : desk.Machine) (x : Arrival) → accepted (arrive m x).answer �
 unfolding refused
 there m x h = go (ltb x.processor (processors m)) refl
   where
-    told : (b : Bool) → accepted (refused (if b then over else no_such_processor) m).answer ≡ true → ⊥
+    told : (b : Bool) → accepted (refused (if b then Over else NoSuchProcessor) m).answer ≡ true → ⊥
     told true e = true≢false (sym e)
     told false e = true≢false (sym e)
 

@@ -1,17 +1,18 @@
 -- ONE RESULT: two results that meet the promise of an event are one. A REFUSED EVENT leaves both as they were, and the
 -- sleepers are told nothing.
 -- Assumes nothing.
-use Rattle.std.proofs.Common.{◌≡◌, ℕ, Bool, true, false, sym, refl, ap, ◌∙◌, if◌then◌else◌}
+use Rattle.std.proofs.Common.{◌≡◌, Some, None, ℕ, Bool, true, false, sym, refl, ap, ◌∙◌, if◌then◌else◌}
 use Rattle.rules.specs.declared.Event.{Event}
 use Rattle.rules.specs.Words.{Single}
-use Rattle.rules.specs.Numbers.{base_slots, base_sems, base_customers, no_such_processor}
+use Rattle.rules.specs.Numbers.{base_slots, base_sems, base_customers}
+use Rattle.rules.specs.declared.Refusal.TheVariants.{NoSuchProcessor}
 use Rattle.rules.specs.Machine as desk
 use Rattle.rules.specs.Machine.{turn}
 use Rattle.rules.specs.Answers as answers
 use Rattle.rules.specs.Rules.{refusal, refused, step, reaches, seated_again, arrive}
 use Rattle.rules.proofs.Tables.{tables_turned}
 use Rattle.ledger.proofs.Refusals.{verdict}
-use Rattle.events.specs.Promised.{at_processor, number_at}
+use Rattle.events.specs.Promised.{at_processor, refusal_at}
 use Rattle.desk.specs.View as view_of
 use Rattle.desk.proofs.Unique.{answer_unique}
 use Rattle.sleeps.specs.Rules.{Outcome}
@@ -30,16 +31,16 @@ serve_unique u k e p r s x y =
     let t = turn_unique x.sleep y.sleep in
     λ i. record { pair = record { machine = (d i).machine; sleepers = (t i).sleepers }; answer = (d i).answer; slept = (t i).answer }
 
--- the answer's number is the one that the desk's promise speaks of
-number_told : (k : ℕ) (e : Event) (m : desk.Machine) → Single (turn k m).running → (arrive m (at_processor k e)).answer.refusal ≡ number_at k e m
+-- the answer's refusal is the one that the desk's promise speaks of
+refusal_told : (k : ℕ) (e : Event) (m : desk.Machine) → Single (turn k m).running → (arrive m (at_processor k e)).answer.refusal ≡ refusal_at k e m
 unfolding arrive refused
-number_told k e m one = go (reaches k m)
+refusal_told k e m one = go (reaches k m)
   where
-    go : (b : Bool) → (if b then seated_again k (step (turn k m) e) else refused no_such_processor m).answer.refusal ≡ (if b then refusal (turn k m) e else no_such_processor)
+    go : (b : Bool) → (if b then seated_again k (step (turn k m) e) else refused NoSuchProcessor m).answer.refusal ≡ (if b then refusal (turn k m) e else Some NoSuchProcessor)
     go true = verdict (turn k m) e one
     go false = refl
 
-module _ (u k : ℕ) (e : Event) (p : Pair) (r : Served) (g : Good p) (x : Serves u k e p r) (no : r.answer.refusal ≡ 0 → ⊥) where
+module _ (u k : ℕ) (e : Event) (p : Pair) (r : Served) (g : Good p) (x : Serves u k e p r) (no : r.answer.refusal ≡ None → ⊥) where
   abbrev before : desk.Machine
   before = view_of.view p.machine
 
@@ -52,7 +53,7 @@ module _ (u k : ℕ) (e : Event) (p : Pair) (r : Served) (g : Good p) (x : Serve
   pub refused_machine : r.pair.machine ≡ p.machine
   refused_machine =
       let one = (tables_turned base_slots base_sems base_customers _ k before g.machine.rests.tables).one_runs in
-      x.desk.same (λ z. no (sym (ap (λ a. a.refusal) said) ∙ number_told k e before one ∙ z))
+      x.desk.same (λ z. no (sym (ap (λ a. a.refusal) said) ∙ refusal_told k e before one ∙ z))
 
   nothing_told : (serve u (at_processor k e) (record { machine = before; sleepers = sleeping.view p.sleepers })).sleep ≡ asleep
   unfolding serve

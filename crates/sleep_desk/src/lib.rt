@@ -6,7 +6,7 @@ ghost use Rattle.std.specs.Prelude.{◌≡◌};
 ghost use Rattle.events.specs.Promised.{at_processor};
 ghost use Rattle.sleeping.specs.Promised.{view, Comes};
 ghost use Rattle.sleeping.specs.Promised as sleeping;
-ghost use Rattle.sleep_desk.specs.Rules.{general, goes_up, gap_told, request, tick_told, asked, heard, quiet, through};
+ghost use Rattle.sleep_desk.specs.Rules.{goes_up, gap_told, request, tick_told, asked, heard, quiet, through};
 ghost use Rattle.sleep_desk.specs.Promised.{Good, Serves, Kept, outcome};
 
 use desk::Machine;
@@ -50,29 +50,11 @@ fn timed(sleepers: Sleepers, processor: u8, gap: u32) -> Turn
     sleeping::pass(sleepers, gap as u64)
 }
 
-// "0 for TLB or 1 for general"
-fn is_general(cause: Cause) -> bool
-    ensures { result ≡ general cause }
-{
-    match cause {
-        Cause::Tlb => false,
-        Cause::General => true,
-    }
-}
-
 // The desk passes the event up, to the general exceptions.
 fn goes_up(action: Action) -> bool
     ensures { result ≡ goes_up action }
 {
-    match action {
-        Action::CarryOn(_) => false,
-        Action::Run(_) => false,
-        Action::Wait => false,
-        Action::Halt => false,
-        Action::Panic => false,
-        Action::PassUp(_, cause) => is_general(cause),
-        Action::Nothing => false,
-    }
+    matches!(action, Action::PassUp(_, Cause::General))
 }
 
 // "a U-proc asks (call 18, passed up) to sleep a1 seconds"
@@ -86,8 +68,7 @@ fn requested(turn: Turn, number: u32, a0: i32, a1: u32, action: Action) -> Turn
     if !goes_up(action) {
         return turn;
     }
-    let sleepers = turn.sleepers;
-    sleeping::ask(sleepers, number, a1)
+    sleeping::ask(turn.sleepers, number, a1)
 }
 
 // "At a tick": line 2, on any processor.
@@ -98,8 +79,7 @@ fn ticked(turn: Turn, line: u8) -> Turn
     if line != TICK {
         return turn;
     }
-    let sleepers = turn.sleepers;
-    sleeping::tick(sleepers)
+    sleeping::tick(turn.sleepers)
 }
 
 // What an accepted event asks of the sleepers, its gap passed.
@@ -108,21 +88,9 @@ fn asked(turn: Turn, number: u32, e: Event, action: Action) -> Turn
     ensures { Comes (through (asked number e action) (outcome turn)) result }
 {
     match e {
-        Event::Call {
-            clock: _,
-            mode: _,
-            a0,
-            a1,
-            a2: _,
-            a3: _,
-        } => requested(turn, number, a0, a1, action),
-        Event::Interrupt {
-            clock: _,
-            line,
-            first: _,
-            second: _,
-        } => ticked(turn, line),
-        Event::Exception { clock: _, code: _ } => turn,
+        Event::Call { a0, a1, .. } => requested(turn, number, a0, a1, action),
+        Event::Interrupt { line, .. } => ticked(turn, line),
+        Event::Exception { .. } => turn,
     }
 }
 
@@ -138,12 +106,11 @@ fn told(
     requires { sleeping.Good sleepers }
     ensures { Comes (through (heard number (at_processor processor e) gap answer) (quiet (view sleepers))) result }
 {
-    if answer.refusal != 0 {
+    if answer.refusal.is_some() {
         return sleeping::answered(sleepers, Follows::Nothing);
     }
     let turn = timed(sleepers, processor, gap);
-    let action = answer.action;
-    asked(turn, number, e, action)
+    asked(turn, number, e, answer.action)
 }
 
 // Any event at any processor, and the number of the U-proc that the host names for its caller: any number, 0 where it
@@ -156,15 +123,13 @@ pub fn event(pair: Pair, processor: u8, e: Event, number: u32) -> Served
     let last = before.last(processor);
     let gap = wrapping_sub_u32(clock_of(e), last);
     let done = before.event(processor, e);
-    let machine = done.machine;
-    let answer = done.answer;
-    let asleep = pair.sleepers;
-    let turn = told(asleep, number, processor, e, gap, answer);
-    let sleepers = turn.sleepers;
-    let slept = turn.answer;
+    let turn = told(pair.sleepers, number, processor, e, gap, done.answer);
     Served {
-        pair: Pair { machine, sleepers },
-        answer,
-        slept,
+        pair: Pair {
+            machine: done.machine,
+            sleepers: turn.sleepers,
+        },
+        answer: done.answer,
+        slept: turn.answer,
     }
 }

@@ -11,9 +11,9 @@ use lib.ListN.{length}
 use borrow.Author.Tests.{leb-false, le-leb, lt-leb}
 use Rattle.words.specs.Texts.{line_at}
 use Rattle.words.proofs.Places.{next_further}
-use Rattle.sleep_text.specs.declared.Verdict.{Verdict}
-use Rattle.sleep_text.specs.declared.Verdict.TheVariants.{Fine, Wrong}
-use Rattle.sleep_text.specs.Lines.{bad, parsed, line_of, bad_from}
+use Rattle.std.specs.declared.result.Result.TheVariants.{Ok, Err}
+use Rattle.sleep_text.specs.declared.Bad.{Bad}
+use Rattle.sleep_text.specs.Lines.{Parsed, Verdict, found, parsed, line_of, bad_from}
 
 -- with room for every line, more room changes nothing
 enough : (f g : ℕ) (text : List ℕ) (at number : ℕ) → length text ≤ at + f → length text ≤ at + g → bad_from f text at number ≡ bad_from g text at number
@@ -25,31 +25,32 @@ enough (suc f) (suc g) text at number h k = go (leb (length text) at) refl (enou
   where
     go : (b : Bool) → leb (length text) at ≡ b
         → (length text ≤ (line_at text at).next + f → length text ≤ (line_at text at).next + g → bad_from f text (line_at text at).next (number + 1) ≡ bad_from g text (line_at text at).next (number + 1))
-        → (if b then Fine else (if bad (parsed (line_of text at)) then Wrong number at (line_at text at).end (parsed (line_of text at)) else bad_from f text (line_at text at).next (number + 1)))
-        ≡ (if b then Fine else (if bad (parsed (line_of text at)) then Wrong number at (line_at text at).end (parsed (line_of text at)) else bad_from g text (line_at text at).next (number + 1)))
+        → (if b then Ok tt else found number at (line_at text at).end (parsed (line_of text at)) (bad_from f text (line_at text at).next (number + 1)))
+        ≡ (if b then Ok tt else found number at (line_at text at).end (parsed (line_of text at)) (bad_from g text (line_at text at).next (number + 1)))
     go true e ih = refl
     go false e ih =
         let n = next_further text at (leb-false (length text) at e) in
-        ap (λ (v : Verdict). if bad (parsed (line_of text at)) then Wrong number at (line_at text at).end (parsed (line_of text at)) else v) (ih (omega arith) (omega arith))
+        ap (λ (v : Verdict). found number at (line_at text at).end (parsed (line_of text at)) v) (ih (omega arith) (omega arith))
 
 module _ (text : List ℕ) (at number : ℕ) where
-  none : bad_from 0 text at number ≡ Fine
+  none : bad_from 0 text at number ≡ Ok tt
   unfolding bad_from
   none = refl
 
-  pub walk_end : length text ≤ at → bad_from (length text) text at number ≡ Fine
+  pub walk_end : length text ≤ at → bad_from (length text) text at number ≡ Ok tt
   walk_end h = enough (length text) 0 text at number (omega arith) (omega arith) ∙ none
 
   -- one line more is looked at
-  turn : at < length text → bad_from (suc (length text)) text at number ≡ if bad (parsed (line_of text at)) then Wrong number at (line_at text at).end (parsed (line_of text at)) else bad_from (length text) text (line_at text at).next (number + 1)
+  turn : at < length text → bad_from (suc (length text)) text at number ≡ found number at (line_at text at).end (parsed (line_of text at)) (bad_from (length text) text (line_at text at).next (number + 1))
   unfolding bad_from
   turn h = rw (lt-leb (length text) at h)
 
   more : bad_from (length text) text at number ≡ bad_from (suc (length text)) text at number
   more = enough (length text) (suc (length text)) text at number (omega arith) (omega arith)
 
-  pub walk_bad : at < length text → bad (parsed (line_of text at)) ≡ true → bad_from (length text) text at number ≡ Wrong number at (line_at text at).end (parsed (line_of text at))
-  walk_bad h e = more ∙ turn h ∙ rw e
+  pub walk_bad : at < length text → (b : Bad) → Err b ≡ parsed (line_of text at) → bad_from (length text) text at number ≡ Err (record { number = number; from = at; to = (line_at text at).end; bad = b })
+  walk_bad h b e = more ∙ turn h ∙ rw (← e)
 
-  pub walk_on : at < length text → bad (parsed (line_of text at)) ≡ false → bad_from (length text) text at number ≡ bad_from (length text) text (line_at text at).next (number + 1)
-  walk_on h e = more ∙ turn h ∙ rw e
+  pub walk_on : at < length text → (said : Parsed) → said ≡ parsed (line_of text at) → ((b : Bad) → said ≡ Err b → ⊥) → bad_from (length text) text at number ≡ bad_from (length text) text (line_at text at).next (number + 1)
+  walk_on h (Ok o) e n = more ∙ turn h ∙ rw (← e)
+  walk_on h (Err b) e n = absurd (n b refl)

@@ -1,6 +1,8 @@
 -- An answer as the line that is written: "N REFUSAL WORD [U ..]", and a newline.
-use Rattle.std.specs.Prelude.{List, [], ◌∷◌, ◌++◌, ℕ, eqb, take, if◌then◌else◌}
+use Rattle.std.specs.Prelude.{List, [], ◌∷◌, ◌++◌, ℕ, Option, Some, None, take}
 use Rattle.report.specs.Text.{newline, space, decimal}
+use Rattle.sleeps.specs.Numbers.{told_number}
+use Rattle.sleeps.specs.declared.Refusal.{Refusal}
 use Rattle.sleeps.specs.declared.Follows.{Follows}
 use Rattle.sleeps.specs.declared.Follows.TheVariants.{Nothing, Sleeps, Ends, Wakes, Ended}
 use Rattle.sleeps.specs.declared.Answer.{Answer}
@@ -17,8 +19,9 @@ abbrev pub none : List ℕ
 none = 110 ∷ 111 ∷ 110 ∷ 101 ∷ []
 
 -- a refusal is "none"
-unfoldable pub word_of : ℕ → Follows → List ℕ
-word_of refusal f = if eqb refusal 0 then follows_word f else none
+abbrev pub word_of : Option Refusal → Follows → List ℕ
+word_of None f = follows_word f
+word_of (Some r) f = none
 
 -- "after wake come the U-procs woken, in order", each behind a space
 unfoldable pub spelt : List ℕ → List ℕ
@@ -26,7 +29,7 @@ spelt [] = []
 spelt (n ∷ ns) = (space ∷ decimal n) ++ spelt ns
 
 unfoldable pub answer_line : ℕ → Answer → List ℕ
-answer_line n a = decimal n ++ ((space ∷ decimal a.refusal) ++ ((space ∷ []) ++ (word_of a.refusal a.follows ++ (spelt (take a.count a.woken) ++ (newline ∷ [])))))
+answer_line n a = decimal n ++ ((space ∷ decimal (told_number a.refusal)) ++ ((space ∷ []) ++ (word_of a.refusal a.follows ++ (spelt (take a.count a.woken) ++ (newline ∷ [])))))
 
 -- as many bytes as such a line has at most
 abbrev pub longest : ℕ

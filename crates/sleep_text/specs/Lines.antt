@@ -1,17 +1,14 @@
 -- What a line of the text says: "gap N", "ask U A1", "tick", "end U", numbers decimal, A1 also negative.
-use Rattle.std.specs.Prelude.{Bool, true, false, List, [], ◌∷◌, ℕ, zero, suc, ◌+◌, ◌-◌, ◌^◌, eqb, leb, length, take, drop, if◌then◌else◌}
-use Rattle.words.specs.declared.Number.{Number}
-use Rattle.words.specs.declared.Number.TheVariants.{Is, Not}
+use Rattle.std.specs.Prelude.{List, [], ◌∷◌, ℕ, zero, suc, ◌+◌, ◌-◌, ◌^◌, Option, Some, None, Ok, Err, eqb, leb, length, take, drop, if◌then◌else◌}
+use Rattle.std.specs.declared.result.Result.{Result}
 use Rattle.words.specs.Texts.{line_at, nth, same}
 use Rattle.words.specs.Figures.{decimal_of, signed_word_of}
 use Rattle.sleeps.specs.declared.Operation.{Operation}
 use Rattle.sleeps.specs.declared.Operation.TheVariants.{Gap, Ask, Tick, End}
 use Rattle.sleep_text.specs.declared.Wanted.{Wanted}
 use Rattle.sleep_text.specs.declared.Wanted.TheVariants.{Verb, Microseconds, Proc, Seconds, NoMore}
-use Rattle.sleep_text.specs.declared.Parsed.{Parsed}
-use Rattle.sleep_text.specs.declared.Parsed.TheVariants.{Blank, Means, Bad}
-use Rattle.sleep_text.specs.declared.Verdict.{Verdict}
-use Rattle.sleep_text.specs.declared.Verdict.TheVariants.{Fine, Wrong}
+use Rattle.sleep_text.specs.declared.Bad.{Bad}
+use Rattle.sleep_text.specs.declared.Wrong.{Wrong}
 
 -- "gap", "ask", "tick", "end", in bytes
 abbrev pub gap : List ℕ
@@ -28,32 +25,40 @@ end = 101 ∷ 110 ∷ 100 ∷ []
 
 -- ── One line ──
 
+-- an operation, or nothing, or what is wrong
+abbrev pub Parsed : Type 0
+Parsed = Result (Option Operation) Bad
+
+-- the word with k before it is not what was expected
+abbrev pub bad_word : ℕ → Wanted → Parsed
+bad_word k w = Err (record { word = k; wanted = w })
+
 -- what is said where a word is a number, or else
-abbrev pub with_number : Number → Parsed → (ℕ → Parsed) → Parsed
-with_number Not other f = other
-with_number (Is n) other f = f n
+abbrev pub with_number : Option ℕ → Parsed → (ℕ → Parsed) → Parsed
+with_number None other f = other
+with_number (Some n) other f = f n
 
 -- the line has no word with k before it
 abbrev pub ended : List ℕ → ℕ → Operation → Parsed
-ended line k o = if eqb (length (nth line k)) 0 then Means o else Bad k NoMore
+ended line k o = if eqb (length (nth line k)) 0 then Ok (Some o) else bad_word k NoMore
 
 unfoldable pub gap_line : List ℕ → Parsed
-gap_line line = with_number (decimal_of (2 ^ 64 - 1) (nth line 1)) (Bad 1 Microseconds) (λ n. ended line 2 (Gap n))
+gap_line line = with_number (decimal_of (2 ^ 64 - 1) (nth line 1)) (bad_word 1 Microseconds) (λ n. ended line 2 (Gap n))
 
 unfoldable pub ask_line : List ℕ → Parsed
 ask_line line =
-    with_number (decimal_of (2 ^ 32 - 1) (nth line 1)) (Bad 1 Proc) (λ u. with_number (signed_word_of (nth line 2)) (Bad 2 Seconds) (λ a1. ended line 3 (Ask u a1)))
+    with_number (decimal_of (2 ^ 32 - 1) (nth line 1)) (bad_word 1 Proc) (λ u. with_number (signed_word_of (nth line 2)) (bad_word 2 Seconds) (λ a1. ended line 3 (Ask u a1)))
 
 unfoldable pub end_line : List ℕ → Parsed
-end_line line = with_number (decimal_of (2 ^ 32 - 1) (nth line 1)) (Bad 1 Proc) (λ u. ended line 2 (End u))
+end_line line = with_number (decimal_of (2 ^ 32 - 1) (nth line 1)) (bad_word 1 Proc) (λ u. ended line 2 (End u))
 
 unfoldable pub parsed : List ℕ → Parsed
 parsed line =
-    if eqb (length (nth line 0)) 0 then Blank
+    if eqb (length (nth line 0)) 0 then Ok None
     else (if same (nth line 0) gap then gap_line line
     else (if same (nth line 0) ask then ask_line line
     else (if same (nth line 0) tick then ended line 1 Tick
-    else (if same (nth line 0) end then end_line line else Bad 0 Verb))))
+    else (if same (nth line 0) end then end_line line else bad_word 0 Verb))))
 
 -- ── A whole text ──
 
@@ -61,17 +66,21 @@ parsed line =
 abbrev pub line_of : List ℕ → ℕ → List ℕ
 line_of text at = take ((line_at text at).end - at) (drop at text)
 
-abbrev pub bad : Parsed → Bool
-bad Blank = false
-bad (Means o) = false
-bad (Bad k w) = true
+-- all is as expected, or what is wrong with the first line that isn't
+abbrev pub Verdict : Type 0
+Verdict = Result (Unit {0}) Wrong
+
+-- what is found at the line of that number at a place, or else behind it
+abbrev pub found : ℕ → ℕ → ℕ → Parsed → Verdict → Verdict
+found number from to (Ok o) v = v
+found number from to (Err b) v = Err (record { number = number; from = from; to = to; bad = b })
 
 -- the first bad line from a place on, which has that number (f, the most lines that there can be, only shows that
 -- this ends)
 unfoldable pub bad_from : ℕ → List ℕ → ℕ → ℕ → Verdict
-bad_from zero text at number = Fine
+bad_from zero text at number = Ok tt
 bad_from (suc f) text at number = let v = bad_from f text (line_at text at).next (number + 1) in
-    if leb (length text) at then Fine else (if bad (parsed (line_of text at)) then Wrong number at (line_at text at).end (parsed (line_of text at)) else v)
+    if leb (length text) at then Ok tt else found number at (line_at text at).end (parsed (line_of text at)) v
 
 -- ── What was expected, in bytes ──
 

@@ -2,21 +2,22 @@
 //     gap N, ask U A1, tick, end U        numbers are decimal, A1 also negative
 #![tactic(auto)]
 
-ghost use Rattle.std.specs.Prelude.{◌≡◌, ◌+◌, ◌≤◌, length, take};
+ghost use Rattle.std.specs.Prelude.{◌≡◌, ◌∷◌, ◌+◌, ◌≤◌, length, take};
+ghost use Rattle.report.specs.Text.{decimal, space};
 ghost use Rattle.report.specs.Buffer.{Puts};
+ghost use Rattle.sleeps.specs.Numbers.{told_number};
 ghost use Rattle.words.specs.Texts.{nth};
 ghost use Rattle.words.specs.Complaints.{complaint, around, Complains};
-ghost use Rattle.sleeps.specs.Numbers.{places};
 ghost use Rattle.sleeping.specs.Promised.{Whole};
-ghost use Rattle.sleep_text.specs.Lines.{ended, gap_line, ask_line, end_line, bad, parsed, wanted_text, bad_from};
+ghost use Rattle.sleep_text.specs.Lines.{ended, gap_line, ask_line, end_line, parsed, wanted_text, bad_from};
 ghost use Rattle.sleep_text.specs.Answers.{follows_word, word_of, spelt, answer_line, longest};
 
-use report::{Written, add_number, put_byte, put_bytes, put_decimal};
-use sleeps::{Answer, Follows, Operation, PLACES};
-use words::{Number, absent_at, complain, decimal_at, line_at, same_at, signed_word_at, word_at};
+use report::{add_number, put_byte, put_bytes, put_decimal};
+use sleeps::{Answer, Follows, Operation, Refusal};
+use words::{absent_at, complain, decimal_at, line_at, nth_word, same_at, signed_word_at};
 
 // What a line was expected to have.
-#[derive(Clone, Copy)]
+#[derive(Clone, Copy, PartialEq, Eq)]
 pub enum Wanted {
     Verb,
     Microseconds,
@@ -25,12 +26,11 @@ pub enum Wanted {
     NoMore,
 }
 
-// What a line says: nothing, an operation, or that the word with so many before it is not what was expected.
-#[derive(Clone, Copy)]
-pub enum Parsed {
-    Blank,
-    Means(Operation),
-    Bad(usize, Wanted),
+// What is wrong with a line: the word with so many before it is not what was expected.
+#[derive(Clone, Copy, PartialEq, Eq)]
+pub struct Bad {
+    pub word: usize,
+    pub wanted: Wanted,
 }
 
 // The greatest number of a gap, and of a word of 32 bits.
@@ -39,58 +39,61 @@ const TOP_64: u64 = 18446744073709551615;
 const TOP_32: u64 = 4294967295;
 
 // The operation, where the line has no word more.
-fn ended(line: &[u8], k: usize, operation: Operation) -> Parsed
+fn ended(line: &[u8], k: usize, operation: Operation) -> Result<Option<Operation>, Bad>
     ensures { result ≡ ended line.now k operation }
 {
     if absent_at(line, k) {
-        return Parsed::Means(operation);
+        return Ok(Some(operation));
     }
-    Parsed::Bad(k, Wanted::NoMore)
+    Err(Bad {
+        word: k,
+        wanted: Wanted::NoMore,
+    })
 }
 
 // "gap N"
-fn gap_line(line: &[u8]) -> Parsed
+fn gap_line(line: &[u8]) -> Result<Option<Operation>, Bad>
     ensures { result ≡ gap_line line.now }
 {
-    let number = decimal_at(line, 1, TOP_64);
-    let Number::Is(gap) = number else {
-        return Parsed::Bad(1, Wanted::Microseconds);
-    };
+    let gap = decimal_at(line, 1, TOP_64).ok_or(Bad {
+        word: 1,
+        wanted: Wanted::Microseconds,
+    })?;
     ended(line, 2, Operation::Gap(gap))
 }
 
 // "ask U A1"
-fn ask_line(line: &[u8]) -> Parsed
+fn ask_line(line: &[u8]) -> Result<Option<Operation>, Bad>
     ensures { result ≡ ask_line line.now }
 {
-    let number = decimal_at(line, 1, TOP_32);
-    let Number::Is(u) = number else {
-        return Parsed::Bad(1, Wanted::Proc);
-    };
-    let seconds = signed_word_at(line, 2);
-    let Number::Is(a1) = seconds else {
-        return Parsed::Bad(2, Wanted::Seconds);
-    };
+    let u = decimal_at(line, 1, TOP_32).ok_or(Bad {
+        word: 1,
+        wanted: Wanted::Proc,
+    })?;
+    let a1 = signed_word_at(line, 2).ok_or(Bad {
+        word: 2,
+        wanted: Wanted::Seconds,
+    })?;
     ended(line, 3, Operation::Ask(u as u32, a1 as u32))
 }
 
 // "end U"
-fn end_line(line: &[u8]) -> Parsed
+fn end_line(line: &[u8]) -> Result<Option<Operation>, Bad>
     ensures { result ≡ end_line line.now }
 {
-    let number = decimal_at(line, 1, TOP_32);
-    let Number::Is(u) = number else {
-        return Parsed::Bad(1, Wanted::Proc);
-    };
+    let u = decimal_at(line, 1, TOP_32).ok_or(Bad {
+        word: 1,
+        wanted: Wanted::Proc,
+    })?;
     ended(line, 2, Operation::End(u as u32))
 }
 
-// What a line says.
-pub fn parse(line: &[u8]) -> Parsed
+// What a line says: an operation, or nothing.
+pub fn parse(line: &[u8]) -> Result<Option<Operation>, Bad>
     ensures { result ≡ parsed line.now }
 {
     if absent_at(line, 0) {
-        return Parsed::Blank;
+        return Ok(None);
     }
     if same_at(line, 0, b"gap") {
         return gap_line(line);
@@ -104,57 +107,46 @@ pub fn parse(line: &[u8]) -> Parsed
     if same_at(line, 0, b"end") {
         return end_line(line);
     }
-    Parsed::Bad(0, Wanted::Verb)
+    Err(Bad {
+        word: 0,
+        wanted: Wanted::Verb,
+    })
 }
 
 // The first line that is not what was expected: its number, where it begins and ends, and what is wrong with it.
-#[derive(Clone, Copy)]
-pub enum Verdict {
-    Fine,
-    Wrong {
-        number: u64,
-        from: usize,
-        to: usize,
-        said: Parsed,
-    },
-}
-
-fn is_bad(said: Parsed) -> bool
-    ensures { result ≡ bad said }
-{
-    match said {
-        Parsed::Blank => false,
-        Parsed::Means(_) => false,
-        Parsed::Bad(_, _) => true,
-    }
+#[derive(Clone, Copy, PartialEq, Eq)]
+pub struct Wrong {
+    pub number: u64,
+    pub from: usize,
+    pub to: usize,
+    pub bad: Bad,
 }
 
 // Every line of a text is looked at, up to the first bad one.
-pub fn first_bad(text: &[u8]) -> Verdict
+pub fn first_bad(text: &[u8]) -> Result<(), Wrong>
     ensures { result ≡ bad_from (length text.now) text.now 0 1 }
 {
     let mut at = 0;
     let mut number = 1;
+    // A `while`, since a place goes on by a line: that is no index of a list that is there to be walked.
     while at < text.len() {
         let line = line_at(text, at);
-        let to = line.end;
-        let said = parse(&text[at..to]);
-        if is_bad(said) {
-            return Verdict::Wrong {
+        if let Err(bad) = parse(&text[at..line.end]) {
+            return Err(Wrong {
                 number,
                 from: at,
-                to,
-                said,
-            };
+                to: line.end,
+                bad,
+            });
         }
         at = line.next;
         number += 1;
     }
-    Verdict::Fine
+    Ok(())
 }
 
 // "line N: found 'WORD', expected TEXT"
-fn complain_word(out: &mut [u8], number: u64, word: &[u8], wanted: Wanted) -> Written
+fn complain_word(out: &mut [u8], number: u64, word: &[u8], wanted: Wanted) -> Option<usize>
     ensures { Complains (complaint number word.now (wanted_text wanted)) (around + length (wanted_text wanted)) out.old out.new result }
 {
     match wanted {
@@ -172,13 +164,10 @@ fn complain_word(out: &mut [u8], number: u64, word: &[u8], wanted: Wanted) -> Wr
 }
 
 // The same of a line and the word in it that is not what was expected.
-pub fn complain_of(out: &mut [u8], number: u64, line: &[u8], k: usize, wanted: Wanted) -> Written
-    ensures { Complains (complaint number (nth line.now k) (wanted_text wanted)) (around + length (wanted_text wanted)) out.old out.new result }
+pub fn complain_of(out: &mut [u8], number: u64, line: &[u8], bad: Bad) -> Option<usize>
+    ensures { Complains (complaint number (nth line.now bad.word) (wanted_text bad.wanted)) (around + length (wanted_text bad.wanted)) out.old out.new result }
 {
-    let w = word_at(line, k);
-    let from = w.from;
-    let to = w.to;
-    complain_word(out, number, &line[from..to], wanted)
+    complain_word(out, number, nth_word(line, bad.word), bad.wanted)
 }
 
 // The word of what follows.
@@ -196,26 +185,35 @@ fn put_follows(out: &mut [u8], at: usize, follows: Follows) -> usize
 }
 
 // The word of an answer: "none" where it is refused.
-fn put_verdict(out: &mut [u8], at: usize, refusal: u8, follows: Follows) -> usize
+fn put_verdict(out: &mut [u8], at: usize, refusal: Option<Refusal>, follows: Follows) -> usize
     requires { at + length (word_of refusal follows) ≤ length out.old }
     ensures { Puts (word_of refusal follows) out.old at out.new result }
 {
-    if refusal != 0 {
-        return put_bytes(out, at, b"none");
+    match refusal {
+        None => put_follows(out, at, follows),
+        Some(_) => put_bytes(out, at, b"none"),
     }
-    put_follows(out, at, follows)
 }
 
-// The first n numbers, each behind a space.
-fn put_numbers(out: &mut [u8], at: usize, numbers: [u32; PLACES], n: usize) -> usize
-    requires { (n ≤ places) × (at + length (spelt (take n numbers)) ≤ length out.old) }
-    ensures { Puts (spelt (take n numbers)) out.old at out.new result }
+// The number of a refusal, or 0, behind a space.
+fn add_refusal(out: &mut [u8], at: usize, refusal: Option<Refusal>) -> usize
+    requires { at + length (space ∷ decimal (told_number refusal)) ≤ length out.old }
+    ensures { Puts (space ∷ decimal (told_number refusal)) out.old at out.new result }
+{
+    match refusal {
+        None => add_number(out, at, 0),
+        Some(refusal) => add_number(out, at, u64::from(refusal.number())),
+    }
+}
+
+// Numbers, each behind a space.
+fn put_numbers(out: &mut [u8], at: usize, numbers: &[u32]) -> usize
+    requires { at + length (spelt numbers.now) ≤ length out.old }
+    ensures { Puts (spelt numbers.now) out.old at out.new result }
 {
     let mut next = at;
-    let mut i = 0;
-    while i < n {
-        next = add_number(out, next, numbers[i] as u64);
-        i += 1;
+    for number in numbers {
+        next = add_number(out, next, u64::from(*number));
     }
     next
 }
@@ -224,20 +222,18 @@ fn put_numbers(out: &mut [u8], at: usize, numbers: [u32; PLACES], n: usize) -> u
 pub const LONGEST: usize = 47;
 
 // "N REFUSAL WORD [U ..]", and a newline.
-pub fn write_answer(out: &mut [u8], number: u64, answer: Answer) -> Written
+pub fn write_answer(out: &mut [u8], number: u64, answer: Answer) -> Option<usize>
     requires { Whole answer }
     ensures { Complains (answer_line number answer) longest out.old out.new result }
 {
     if out.len() < LONGEST {
-        return Written::NoRoom;
+        return None;
     }
-    let follows = answer.follows;
-    let woken = answer.woken;
     let mut at = put_decimal(out, 0, number);
-    at = add_number(out, at, answer.refusal as u64);
+    at = add_refusal(out, at, answer.refusal);
     at = put_byte(out, at, b' ');
-    at = put_verdict(out, at, answer.refusal, follows);
-    at = put_numbers(out, at, woken, answer.count);
+    at = put_verdict(out, at, answer.refusal, answer.follows);
+    at = put_numbers(out, at, &answer.woken[..answer.count]);
     at = put_byte(out, at, b'\n');
-    Written::Bytes(at)
+    Some(at)
 }

@@ -1,47 +1,20 @@
--- Arrays written place by place; with one row more, and without some.
+-- Arrays with one row more, and without some.
 -- Assumes nothing.
-use mathlib.Core.Path.{◌≡◌, refl, sym, ap, ◌∙◌}
-use mathlib.Core.Bool.{Bool, true, false}
-use mathlib.Core.List.{List, [], ◌∷◌, ◌++◌, map}
-use Prim.Native.Nat.{ℕ, zero, suc, ◌+◌, ◌-◌, ◌<◌, ◌≤◌}
-use native.Mathlib.Nat.{sub-zero, suc-sub-suc, zero-sub}
+use mathlib.Core.Path.{◌≡◌, sym, ap, ◌∙◌}
+use mathlib.Core.List.{List, ◌∷◌, ◌++◌, map, append_assoc}
+use Prim.Native.Nat.{ℕ, ◌+◌, ◌-◌, ◌<◌, ◌≤◌}
+use native.Mathlib.Nat.{zero-add}
 use native.Mathlib.Numerals.{add-one}
 use native.Mathlib.Omega.{arith}
-use lib.Dec.{ltb}
-use lib.ListN.{length, take, drop, get_or, set, replicate, length-append, length-drop, length-replicate, length-map, take-append-drop, get_or-replicate, get_or-append, get_or-map, get_or-eq_default}
-use lib.Seq.{drop-cons, take-suc, set-append_seam, set_split, append_snoc, get_or-append-add, get_or-take, get_or-drop, length-take-le, take_at, drop_at, take-append-le, take-take, drop-drop}
-use borrow.Author.Tests.{ltb-true, ltb-false}
+use Rattle.std.proofs.lemmas.List.Edits.{paste_more}
+use lib.ListN.{length, take, drop, get_or, get_or-map, set, replicate, length-append, length-drop, length-replicate, length-map}
+use lib.Seq.{paste, length-paste, take-paste, drop-paste, set_split, length-take-le, take_at, drop_at, take-append-le, drop-append-le, take-take, drop-drop, take_all}
+use Rattle.std.specs.List.{copy_within}
+use Rattle.std.proofs.lemmas.List.{drop-take, drop-replicate}
 use Rattle.sleeps.specs.Numbers.{places}
 use Rattle.sleeps.specs.Rules.{number_of}
 use Rattle.sleeps.specs.declared.Sleeper.{Sleeper}
 use Rattle.sleeping.specs.Rows.{blank, with_one, without_some, put_in, cut_out, numbers_of}
-
--- ── An array written place by place: new up to here, old behind ──
-
-module _ {A : Type 0} (new old : List A) (i : ℕ) where
-  abbrev pub half : List A
-  half = take i new ++ drop i old
-
-  pub write_on : (d : A) → length new ≡ length old → i < length old → set half i (get_or new i d) ≡ take (i + 1) new ++ drop (i + 1) old
-  write_on d e h =
-      let n : length (take i new) ≡ i = length-take-le i new (omega arith) in
-      ap (λ (l : List A). set (take i new ++ l) i (get_or new i d)) (drop-cons old i d h)
-      ∙ ap (λ (k : ℕ). set (take i new ++ get_or old i d ∷ drop (suc i) old) k (get_or new i d)) (sym n)
-      ∙ set-append_seam (take i new) (get_or old i d) (drop (suc i) old) (get_or new i d)
-      ∙ sym (append_snoc (take i new) (get_or new i d) (drop (suc i) old))
-      ∙ ap (λ (l : List A). l ++ drop (suc i) old) (sym (take-suc new i d (omega arith)))
-      ∙ ap (λ (k : ℕ). take k new ++ drop k old) (sym (add-one i))
-
-  pub write_end : drop i new ≡ drop i old → half ≡ new
-  write_end e = ap (λ (l : List A). take i new ++ l) (sym e) ∙ take-append-drop i new
-
-  pub write_none : take i new ≡ take i old → half ≡ old
-  write_none e = ap (λ (l : List A). l ++ drop i old) e ∙ take-append-drop i old
-
-pub drop_blanks : {A : Type 0} (k n : ℕ) (a : A) → drop k (replicate n a) ≡ replicate (n - k) a
-drop_blanks zero n a = rw sub-zero
-drop_blanks (suc k) zero a = rw zero-sub
-drop_blanks (suc k) (suc n) a = rw suc-sub-suc (drop_blanks k n a)
 
 -- ── One row more ──
 
@@ -67,27 +40,28 @@ module _ (rows : List Sleeper) (n at : ℕ) (x : Sleeper) (le : at ≤ n) (room 
   unfolding put_in
   put_long = length-append (with_one (take n rows) at x) (drop (n + 1) rows) ∙ omega (arith, one_longer, length-drop (n + 1) rows)
 
-  pub put_moved : (i : ℕ) → at ≤ i → i < n → get_or (put_in rows n at x) (i + 1) blank ≡ get_or rows i blank
+  -- those behind moved back by one, and then the row itself
+  pub put_is : set (copy_within rows at n (at + 1)) at x ≡ put_in rows n at x
   unfolding put_in
-  put_moved i lo hi =
+  put_is =
       let l = take n rows in
-      get_or-append (with_one l at x) (drop (n + 1) rows) blank (i + 1) (omega (arith, one_longer))
-      ∙ ap (λ (k : ℕ). get_or (with_one l at x) k blank) (let e : i + 1 ≡ length (take at l) + suc (i - at) = omega (arith, head) in e)
-      ∙ get_or-append-add (take at l) (x ∷ drop at l) (suc (i - at)) blank
-      ∙ get_or-drop at l (i - at) blank
-      ∙ ap (λ (k : ℕ). get_or l k blank) (let e : at + (i - at) ≡ i = omega arith in e)
-      ∙ get_or-take n rows i blank hi
-
-  -- the row itself is put first
-  pub put_first : take (at + 1) (put_in rows n at x) ++ drop (at + 1) rows ≡ set rows at x
-  unfolding put_in
-  put_first =
-      let l = take n rows in
-      ap (λ (r : List Sleeper). r ++ drop (at + 1) rows) (take-append-le (at + 1) (with_one l at x) (drop (n + 1) rows) (omega (arith, one_longer)) ∙ ap (λ (r : List Sleeper). take (at + 1) r) (sym (append_snoc (take at l) x (drop at l))) ∙ take_at (take at l ++ (x ∷ [])) (drop at l) (at + 1) (length-append (take at l) (x ∷ []) ∙ omega (arith, head)))
-      ∙ append_snoc (take at l) x (drop (at + 1) rows)
-      ∙ ap (λ (r : List Sleeper). r ++ x ∷ drop (at + 1) rows) (take-take at n rows le)
-      ∙ ap (λ (k : ℕ). take at rows ++ x ∷ drop k rows) (add-one at)
-      ∙ sym (set_split rows at x (omega arith))
+      let moved = take (n - at) (drop at rows) in
+      let front : length (take (at + 1) rows) ≡ at + 1 = length-take-le (at + 1) rows (omega arith) in
+      let behind : moved ≡ drop at l = sym (drop-take at (n - at) rows) ∙ ap (λ (k : ℕ). drop at (take k rows)) (let e : at + (n - at) ≡ n = omega arith in e) in
+      let head_is : take at (copy_within rows at n (at + 1)) ≡ take at l =
+      take-append-le at (take (at + 1) rows ++ moved) (drop (at + 1 + (n - at)) rows) (omega (arith, front, length-append (take (at + 1) rows) moved))
+      ∙ take-append-le at (take (at + 1) rows) moved (omega (arith, front))
+      ∙ take-take at (at + 1) rows (omega arith)
+      ∙ sym (take-take at n rows le) in
+      let rest_is : drop (at + 1) (copy_within rows at n (at + 1)) ≡ drop at l ++ drop (n + 1) rows =
+      drop-append-le (at + 1) (take (at + 1) rows ++ moved) (drop (at + 1 + (n - at)) rows) (omega (arith, front, length-append (take (at + 1) rows) moved))
+      ∙ ap (λ (r : List Sleeper). r ++ drop (at + 1 + (n - at)) rows) (drop_at (take (at + 1) rows) moved (at + 1) front ∙ behind)
+      ∙ ap (λ (k : ℕ). drop at l ++ drop k rows) (let e : at + 1 + (n - at) ≡ n + 1 = omega arith in e) in
+      set_split (copy_within rows at n (at + 1)) at x (omega (arith, length-paste rows (at + 1) (drop at rows) (n - at) (omega arith) (omega (arith, length-drop at rows))))
+      ∙ ap (λ (k : ℕ). take at (copy_within rows at n (at + 1)) ++ x ∷ drop k (copy_within rows at n (at + 1))) (sym (add-one at))
+      ∙ ap (λ (r : List Sleeper). take at (copy_within rows at n (at + 1)) ++ x ∷ r) rest_is
+      ∙ ap (λ (r : List Sleeper). r ++ x ∷ (drop at l ++ drop (n + 1) rows)) head_is
+      ∙ sym (append_assoc (take at l) (x ∷ drop at l) (drop (n + 1) rows))
 
 -- ── Some rows less ──
 
@@ -115,46 +89,28 @@ module _ (rows : List Sleeper) (n at k : ℕ) (le : at + k ≤ n) (room : n ≤ 
       length-append (without_some (take n rows) at k) (replicate k blank ++ drop n rows)
       ∙ omega (arith, some_shorter, length-append (replicate k blank) (drop n rows), length-replicate k blank, length-drop n rows)
 
-  pub cut_rest : drop n (cut_out rows n at k) ≡ drop n rows
-  cut_rest =
-      ap (λ (j : ℕ). drop j (cut_out rows n at k)) (let e : n ≡ n - k + k = omega arith in e)
-      ∙ sym (drop-drop k (n - k) (cut_out rows n at k))
-      ∙ ap (λ (l : List Sleeper). drop k l) cut_behind
-      ∙ drop_at (replicate k blank) (drop n rows) k (length-replicate k blank)
-
-  pub cut_front : take at (cut_out rows n at k) ≡ take at rows
+  -- those behind moved up, and then the freed places nought
+  pub cut_is : paste (copy_within rows (at + k) n at) (n - k) (replicate k blank) k ≡ cut_out rows n at k
   unfolding cut_out
-  cut_front =
-      take-append-le at (without_some (take n rows) at k) (replicate k blank ++ drop n rows) (omega (arith, some_shorter))
-      ∙ take-append-le at (take at (take n rows)) (drop (at + k) (take n rows)) (omega (arith, front))
-      ∙ take-take at at (take n rows) (omega arith)
-      ∙ take-take at n rows (omega arith)
-
-  pub cut_moved : (i : ℕ) → at ≤ i → i < n → get_or (cut_out rows n at k) i blank ≡ get_or (take n rows) (i + k) blank
-  unfolding cut_out
-  cut_moved i lo hi = go (ltb i (n - k)) refl
-    where
-      moved : i < n - k → get_or (cut_out rows n at k) i blank ≡ get_or (take n rows) (i + k) blank
-      moved h =
-          let l = take n rows in
-          get_or-append (without_some l at k) (replicate k blank ++ drop n rows) blank i (omega (arith, some_shorter))
-          ∙ ap (λ (j : ℕ). get_or (without_some l at k) j blank) (let e : i ≡ length (take at l) + (i - at) = omega (arith, front) in e)
-          ∙ get_or-append-add (take at l) (drop (at + k) l) (i - at) blank
-          ∙ get_or-drop (at + k) l (i - at) blank
-          ∙ ap (λ (j : ℕ). get_or l j blank) (let e : at + k + (i - at) ≡ i + k = omega arith in e)
-
-      freed : n - k ≤ i → get_or (cut_out rows n at k) i blank ≡ get_or (take n rows) (i + k) blank
-      freed h =
-          let w = without_some (take n rows) at k in
-          ap (λ (j : ℕ). get_or (cut_out rows n at k) j blank) (let e : i ≡ length w + (i - (n - k)) = omega (arith, some_shorter) in e)
-          ∙ get_or-append-add w (replicate k blank ++ drop n rows) (i - (n - k)) blank
-          ∙ get_or-append (replicate k blank) (drop n rows) blank (i - (n - k)) (omega (arith, length-replicate k blank))
-          ∙ get_or-replicate k (i - (n - k)) blank blank (omega arith)
-          ∙ sym (get_or-eq_default (take n rows) blank (omega (arith, row)))
-
-      go : (b : Bool) → ltb i (n - k) ≡ b → get_or (cut_out rows n at k) i blank ≡ get_or (take n rows) (i + k) blank
-      go true e = moved (ltb-true i (n - k) e)
-      go false e = freed (ltb-false i (n - k) e)
+  cut_is =
+      let moved = copy_within rows (at + k) n at in
+      let m = n - (at + k) in
+      let long : m ≤ length (drop (at + k) rows) = omega (arith, length-drop (at + k) rows) in
+      let kept : take (n - k) moved ≡ without_some (take n rows) at k =
+      ap (λ (j : ℕ). take j moved) (let e : n - k ≡ at + m = omega arith in e)
+      ∙ take-paste rows at (drop (at + k) rows) m (omega arith) long
+      ∙ ap (λ (r : List Sleeper). r ++ take m (drop (at + k) rows)) (sym (take-take at n rows (omega arith)))
+      ∙ ap (λ (r : List Sleeper). take at (take n rows) ++ r) (sym (drop-take (at + k) m rows) ∙ ap (λ (j : ℕ). drop (at + k) (take j rows)) (let e : at + k + m ≡ n = omega arith in e)) in
+      let behind : drop (n - k + k) moved ≡ drop n rows =
+      sym (drop-drop k (n - k) moved)
+      ∙ ap (λ (j : ℕ). drop k (drop j moved)) (let e : n - k ≡ at + m = omega arith in e)
+      ∙ ap (λ (r : List Sleeper). drop k r) (drop-paste rows at (drop (at + k) rows) m (omega arith) long)
+      ∙ drop-drop k (at + m) rows
+      ∙ ap (λ (j : ℕ). drop j rows) (let e : at + m + k ≡ n = omega arith in e) in
+      ap (λ (r : List Sleeper). take (n - k) moved ++ r ++ drop (n - k + k) moved) (take_all k (replicate k blank) (omega (arith, length-replicate k blank)))
+      ∙ ap (λ (r : List Sleeper). take (n - k) moved ++ replicate k blank ++ r) behind
+      ∙ ap (λ (r : List Sleeper). r ++ replicate k blank ++ drop n rows) kept
+      ∙ append_assoc (without_some (take n rows) at k) (replicate k blank) (drop n rows)
 
 -- ── Numbers ──
 
@@ -174,12 +130,23 @@ module _ (rows : List Sleeper) (n : ℕ) (room : n ≤ length rows) (fits : n �
   unfolding numbers_of
   numbers_rest = drop_at (map number_of (take n rows)) (replicate (places - n) 0) n named
 
-  pub numbers_behind : drop n (numbers_of rows n) ≡ drop n (replicate places 0)
-  numbers_behind = numbers_rest ∙ sym (drop_blanks n places 0)
+-- those of the first rows alone
+pub numbers_part : (rows : List Sleeper) (k : ℕ) → k ≤ length rows → numbers_of (take k rows) (length (take k rows)) ≡ numbers_of rows k
+unfolding numbers_of
+numbers_part rows k h = rw (length-take-le k rows h, take-take k k rows (omega arith))
 
-  pub number_at : (i : ℕ) → i < n → get_or (numbers_of rows n) i 0 ≡ (get_or rows i blank).number
-  unfolding numbers_of
-  number_at i h =
-      get_or-append (map number_of (take n rows)) (replicate (places - n) 0) 0 i (omega (arith, named))
-      ∙ get_or-map number_of (take n rows) i blank
-      ∙ ap number_of (get_or-take n rows i blank h)
+-- written number by number into noughts
+pub numbers_more : (rows : List Sleeper) (i : ℕ) → i < length rows → length rows ≤ places
+    → set (paste (replicate places 0) 0 (map number_of rows) i) i (get_or rows i blank).number ≡ paste (replicate places 0) 0 (map number_of rows) (i + 1)
+numbers_more rows i h fits =
+    let s = map number_of rows in
+    ap (λ (v : ℕ). set (paste (replicate places 0) 0 s i) i v) (sym (get_or-map number_of rows i blank))
+    ∙ ap (λ (k : ℕ). set (paste (replicate places 0) 0 s i) k (get_or s i 0)) (sym (zero-add i))
+    ∙ paste_more (replicate places 0) 0 s i 0 (omega (arith, zero-add i)) (omega (arith, length-map rows number_of))
+
+pub numbers_are : (rows : List Sleeper) → paste (replicate places 0) 0 (map number_of rows) (length rows) ≡ numbers_of rows (length rows)
+unfolding numbers_of
+numbers_are rows =
+    ap (λ (r : List ℕ). r ++ drop (0 + length rows) (replicate places 0)) (take_all (length rows) (map number_of rows) (omega (arith, length-map rows number_of)))
+    ∙ ap (λ (r : List Sleeper). map number_of r ++ drop (0 + length rows) (replicate places 0)) (sym (take_all (length rows) rows (omega arith)))
+    ∙ ap (λ (r : List ℕ). map number_of (take (length rows) rows) ++ r) (drop-replicate (0 + length rows) places 0 ∙ ap (λ (k : ℕ). replicate (places - k) 0) (zero-add (length rows)))

@@ -1,5 +1,4 @@
 -- Laws that the proofs of several functions cite, and the uniqueness of what is promised.
-pub mod Walks
 pub mod Arrays
 pub mod Fronts
 pub mod Steps

@@ -2,13 +2,15 @@
 -- Assumes nothing.
 use mathlib.Core.Path.{◌≡◌, sym, ap, ◌∙◌}
 use mathlib.Core.List.{List, ◌++◌}
-use Prim.Native.Nat.{ℕ, suc, ◌-◌, ◌≤◌}
+use Prim.Native.Nat.{ℕ, ◌-◌, ◌≤◌}
 use native.Mathlib.Omega.{arith}
 use lib.ListN.{length, take, drop, replicate, take-append-drop}
 use lib.Seq.{length-take-le}
 use Rattle.sleeps.specs.Numbers.{places}
 use Rattle.sleeps.specs.declared.Operation.{Operation}
+use Rattle.sleeps.specs.declared.Refusal.{Refusal}
 use Rattle.sleeps.specs.declared.Follows.{Follows}
+use Rattle.std.proofs.Common.{Option, Some}
 use Rattle.sleeps.specs.declared.Sleeper.{Sleeper}
 use Rattle.sleeps.specs.declared.Sleepers.{Sleepers}
 use Rattle.sleeps.specs.declared.Answer.{Answer}
@@ -33,7 +35,7 @@ array_unique {A} d p q n m lp lq hn hm bp bq e =
 fields : (s t c d : ℕ) (r q : List Sleeper) → s ≡ t → c ≡ d → r ≡ q → ◌≡◌ {A = Sleepers} (record { sum = s; count = c; rows = r }) (record { sum = t; count = d; rows = q })
 fields s t c d r q a b e = rw (a, b, e)
 
-parts : (n m : ℕ) (f g : Follows) (c d : ℕ) (w v : List ℕ) → n ≡ m → f ≡ g → c ≡ d → w ≡ v
+parts : (n m : Option Refusal) (f g : Follows) (c d : ℕ) (w v : List ℕ) → n ≡ m → f ≡ g → c ≡ d → w ≡ v
     → ◌≡◌ {A = Answer} (record { refusal = n; follows = f; count = c; woken = w }) (record { refusal = m; follows = g; count = d; woken = v })
 parts n m f g c d w v p q a b = rw (p, q, a, b)
 
@@ -57,6 +59,6 @@ turn_unique {o} {r} {q} c d =
     both r.answer q.answer r.sleepers q.sleepers (answer_unique r.answer q.answer c.whole d.whole (c.said ∙ sym d.said)) (sleepers_unique r.sleepers q.sleepers c.good d.good (c.seen ∙ sym d.seen))
 
 -- a refusal hands the same sleepers back
-pub refused_same : (o : Operation) (m : Sleepers) (r : Turn) (n : ℕ) → Good m → Comes (step o (view m)) r → r.answer.refusal ≡ suc n → r.sleepers ≡ m
+pub refused_same : (o : Operation) (m : Sleepers) (r : Turn) (n : Refusal) → Good m → Comes (step o (view m)) r → r.answer.refusal ≡ Some n → r.sleepers ≡ m
 refused_same o m r n g c e =
     sleepers_unique r.sleepers m c.good g (c.seen ∙ refusal_keeps o (view m) n (sym (ap (λ (s : Reply). s.refusal) c.said) ∙ e))

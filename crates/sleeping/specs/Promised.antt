@@ -1,13 +1,14 @@
 -- What the sleepers in code stand for, and what an operation promises.
-use Rattle.std.specs.Prelude.{◌≡◌, ℕ, ◌-◌, ◌≤◌, length, take, drop, replicate}
+use Rattle.std.specs.Prelude.{◌≡◌, ℕ, ◌+◌, ◌-◌, ◌≤◌, length, take, drop, replicate}
 use Rattle.rules.specs.Words.{All}
 use Rattle.sleeps.specs.Numbers.{places, last_proc}
 use Rattle.sleeps.specs.Rules.{State, Reply, Outcome}
 use Rattle.sleeps.specs.Sound.{Sound}
+use Rattle.sleeps.specs.declared.Sleeper.{Sleeper}
 use Rattle.sleeps.specs.declared.Sleepers.{Sleepers}
 use Rattle.sleeps.specs.declared.Answer.{Answer}
 use Rattle.sleeps.specs.declared.Turn.{Turn}
-use Rattle.sleeping.specs.Rows.{blank}
+use Rattle.sleeping.specs.Rows.{blank, put_in, cut_out}
 
 abbrev pub view : Sleepers → State
 view m = record { sum = m.sum; asleep = take m.count m.rows }
@@ -19,6 +20,13 @@ pub record Good (m : Sleepers) : Type 0 where
   pub room : m.count ≤ places
   pub rest : drop m.count m.rows ≡ replicate (places - m.count) blank
   pub sound : Sound (view m)
+
+-- one more sleeper, at a place; and k fewer, from a place on
+abbrev pub grown : Sleepers → ℕ → Sleeper → Sleepers
+grown m at x = record { sum = m.sum; count = m.count + 1; rows = put_in m.rows m.count at x }
+
+abbrev pub shrunk : Sleepers → ℕ → ℕ → Sleepers
+shrunk m at k = record { sum = m.sum; count = m.count - k; rows = cut_out m.rows m.count at k }
 
 abbrev pub told : Answer → Reply
 told a = record { refusal = a.refusal; follows = a.follows; woken = take a.count a.woken }

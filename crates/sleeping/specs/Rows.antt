@@ -1,25 +1,13 @@
 -- Rows of sleepers as plain lists: what the leaf functions do to an array of which the first n places are sleepers
 -- and the others nought.
-use Rattle.std.specs.Prelude.{Bool, List, [], ◌∷◌, ◌++◌, map, ℕ, suc, ◌+◌, ◌-◌, leb, take, drop, replicate, if◌then◌else◌}
+use Rattle.std.specs.Prelude.{Bool, List, ◌∷◌, ◌++◌, map, ℕ, ◌+◌, ◌-◌, leb, take, drop, replicate}
 use Rattle.sleeps.specs.Numbers.{places}
 use Rattle.sleeps.specs.Rules.{number_of}
 use Rattle.sleeps.specs.declared.Sleeper.{Sleeper}
-use Rattle.sleeping.specs.declared.Found.{Found}
-use Rattle.sleeping.specs.declared.Found.TheVariants.{At, Nothing}
 
 -- a row that is no sleeper's
 abbrev pub blank : Sleeper
 blank = record { wake = 0; number = 0 }
-
--- the first place, counted from i, whose sleeper passes the test
-unfoldable pub first_where : (Sleeper → Bool) → ℕ → List Sleeper → Found
-first_where p i [] = Nothing
-first_where p i (x ∷ l) = if p x then At i else first_where p (suc i) l
-
--- how many, from the first on, pass the test
-unfoldable pub lead : (Sleeper → Bool) → List Sleeper → ℕ
-lead p [] = 0
-lead p (x ∷ l) = if p x then suc (lead p l) else 0
 
 -- wakes no later than a time
 abbrev pub no_later : ℕ → Sleeper → Bool

@@ -2,20 +2,14 @@
 // those of crate sleeps.
 #![tactic(auto)]
 
-ghost use Rattle.std.specs.Prelude.{◌≡◌, [], ◌+◌, ◌≤◌, ◌<◌, take, get_or};
+ghost use Rattle.std.specs.Prelude.{IfSome, ◌≡◌, [], ◌+◌, ◌≤◌, ◌<◌, length};
+ghost use Rattle.std.specs.List.{position_from, prefix_len};
 ghost use Rattle.sleeps.specs.Numbers.{places};
 ghost use Rattle.sleeps.specs.Rules.{outside, is, refused, answered, pass, ask, tick, end, step, nobody};
-ghost use Rattle.sleeping.specs.Rows.{blank, first_where, no_later, lead, put_in, cut_out, numbers_of};
-ghost use Rattle.sleeping.specs.Promised.{Good, view, Comes};
+ghost use Rattle.sleeping.specs.Rows.{no_later, numbers_of};
+ghost use Rattle.sleeping.specs.Promised.{Good, view, grown, shrunk, Comes};
 
-use sleeps::{Answer, Follows, Operation, PLACES, Sleeper, Sleepers, Turn};
-
-// A place, or nothing.
-#[derive(Clone, Copy)]
-pub enum Found {
-    At(usize),
-    Nothing,
-}
+use sleeps::{Answer, Follows, Operation, PLACES, Refusal, Sleeper, Sleepers, Turn};
 
 // 01: "2 to the 62".
 const TIME_LIMIT: u64 = 4611686018427387904;
@@ -31,96 +25,73 @@ const FIRST_PROC: u32 = 1;
 
 const LAST_PROC: u32 = 8;
 
-// The refusals.
-const TIME_FULL: u8 = 3;
+// A row that is no sleeper's.
+const BLANK: Sleeper = Sleeper { wake: 0, number: 0 };
 
-const NO_SUCH_PROC: u8 = 9;
+// An answer of which nothing follows.
+const QUIET: Answer = Answer {
+    refusal: None,
+    follows: Follows::Nothing,
+    count: 0,
+    woken: [0; PLACES],
+};
 
-const ASLEEP_ALREADY: u8 = 10;
-
-// The first place of a sleeper of that number, among the first n rows.
-fn place_of(rows: [Sleeper; PLACES], n: usize, number: u32) -> Found
-    requires { n ≤ places }
-    ensures { result ≡ first_where (is number) 0 (take n rows) }
+// The first place of a sleeper of that number.
+fn place_of(rows: &[Sleeper], number: u32) -> Option<usize>
+    ensures first { result ≡ position_from (is number) 0 rows.now }
+    ensures within { IfSome result (λ i. i < length rows.now) }
 {
-    let mut i = 0;
-    while i < n {
-        let x = rows[i];
-        if number == x.number {
-            return Found::At(i);
-        }
-        i += 1;
-    }
-    Found::Nothing
+    rows.iter().position(|x| x.number == number)
 }
 
-// How many of the first n rows, from the first on, wake no later than a time.
-fn no_later(rows: [Sleeper; PLACES], n: usize, time: u64) -> usize
-    requires { n ≤ places }
-    ensures { result ≡ lead (no_later time) (take n rows) }
+// How many, from the first on, wake no later than a time.
+fn no_later(rows: &[Sleeper], time: u64) -> usize
+    ensures lead { result ≡ prefix_len (no_later time) rows.now }
+    ensures within { result ≤ length rows.now }
 {
-    let mut i = 0;
-    while i < n {
-        let x = rows[i];
-        if time < x.wake {
-            return i;
-        }
-        i += 1;
-    }
-    i
+    rows.iter().take_while(|x| x.wake <= time).count()
 }
 
-// A sleeper put in at a place of n rows: those from there on move back by one.
-fn put_in(rows: [Sleeper; PLACES], n: usize, at: usize, x: Sleeper) -> [Sleeper; PLACES]
-    requires { (at ≤ n) × (n < places) }
-    ensures { result ≡ put_in rows n at x }
+// One more sleeper, at a place: those from there on move back by one.
+fn put_in(sleepers: Sleepers, at: usize, x: Sleeper) -> Sleepers
+    requires { (at ≤ sleepers.count) × (sleepers.count < places) }
+    ensures { result ≡ grown sleepers at x }
 {
-    let mut left = rows;
-    left[at] = x;
-    let mut i = at;
-    while i < n {
-        left[i + 1] = rows[i];
-        i += 1;
+    let n = sleepers.count;
+    let mut rows = sleepers.rows;
+    rows.copy_within(at..n, at + 1);
+    rows[at] = x;
+    Sleepers {
+        count: n + 1,
+        rows,
+        ..sleepers
     }
-    left
 }
 
-// The row at a place, or nought where it is not among the first n.
-fn row_or_blank(rows: [Sleeper; PLACES], n: usize, at: usize) -> Sleeper
-    requires { n ≤ places }
-    ensures { result ≡ get_or (take n rows) at blank }
+// The sleepers without k of them from a place on: those behind move up, and the freed places are nought.
+fn cut_out(sleepers: Sleepers, at: usize, k: usize) -> Sleepers
+    requires { (at + k ≤ sleepers.count) × (sleepers.count ≤ places) }
+    ensures { result ≡ shrunk sleepers at k }
 {
-    if at < n {
-        return rows[at];
+    let n = sleepers.count;
+    let mut rows = sleepers.rows;
+    rows.copy_within(at + k..n, at);
+    rows[n - k..n].fill(BLANK);
+    Sleepers {
+        count: n - k,
+        rows,
+        ..sleepers
     }
-    Sleeper { wake: 0, number: 0 }
 }
 
-// The first n rows without k of them from a place on: those behind move up, and the freed places are nought.
-fn cut_out(rows: [Sleeper; PLACES], n: usize, at: usize, k: usize) -> [Sleeper; PLACES]
-    requires { (at + k ≤ n) × (n ≤ places) }
-    ensures { result ≡ cut_out rows n at k }
+// The numbers of the rows, and noughts behind them.
+fn numbers(rows: &[Sleeper]) -> [u32; PLACES]
+    requires { length rows.now ≤ places }
+    ensures { result ≡ numbers_of rows.now (length rows.now) }
 {
-    let mut left = rows;
-    let mut i = at;
-    while i < n {
-        left[i] = row_or_blank(rows, n, i + k);
-        i += 1;
-    }
-    left
-}
-
-// The numbers of the first n rows, and noughts behind them.
-fn numbers(rows: [Sleeper; PLACES], n: usize) -> [u32; PLACES]
-    requires { n ≤ places }
-    ensures { result ≡ numbers_of rows n }
-{
-    let mut all = [0u32; PLACES];
-    let mut i = 0;
-    while i < n {
-        let x = rows[i];
+    let mut all = [0; PLACES];
+    for (i, x) in rows.iter().enumerate() {
         all[i] = x.number;
-        i += 1;
     }
     all
 }
@@ -129,37 +100,29 @@ fn numbers(rows: [Sleeper; PLACES], n: usize) -> [u32; PLACES]
 fn is_outside(number: u32) -> bool
     ensures { result ≡ outside number }
 {
-    if number < FIRST_PROC {
-        return true;
-    }
-    LAST_PROC < number
+    !(FIRST_PROC..=LAST_PROC).contains(&number)
 }
 
 // A refusal: nothing changes.
-fn refused(sleepers: Sleepers, refusal: u8) -> Turn
+// Kept, an early return and no `?`: a refusal is itself an answer, handed back beside the sleepers as any other.
+fn refused(sleepers: Sleepers, refusal: Refusal) -> Turn
     requires { Good sleepers }
     ensures { Comes (refused refusal (view sleepers)) result }
 {
     let answer = Answer {
-        refusal,
-        follows: Follows::Nothing,
-        count: 0,
-        woken: [0u32; PLACES],
+        refusal: Some(refusal),
+        ..QUIET
     };
     Turn { answer, sleepers }
 }
 
 // What follows, with nobody woken.
+// Kept, `Good` as a premise here and below: `Sleepers` is a plain struct, whose public fields and operations docs/ names.
 pub fn answered(sleepers: Sleepers, follows: Follows) -> Turn
     requires { Good sleepers }
     ensures { Comes (answered follows [] (view sleepers)) result }
 {
-    let answer = Answer {
-        refusal: 0,
-        follows,
-        count: 0,
-        woken: [0u32; PLACES],
-    };
+    let answer = Answer { follows, ..QUIET };
     Turn { answer, sleepers }
 }
 
@@ -167,11 +130,10 @@ pub fn answered(sleepers: Sleepers, follows: Follows) -> Turn
 pub fn fresh() -> Sleepers
     ensures { Good result × (view result ≡ nobody) }
 {
-    let blank = Sleeper { wake: 0, number: 0 };
     Sleepers {
         sum: 0,
         count: 0,
-        rows: [blank; PLACES],
+        rows: [BLANK; PLACES],
     }
 }
 
@@ -182,13 +144,11 @@ pub fn pass(sleepers: Sleepers, gap: u64) -> Turn
 {
     let sum = sleepers.sum;
     if TIME_LIMIT - sum < gap {
-        return refused(sleepers, TIME_FULL);
+        return refused(sleepers, Refusal::TimeFull);
     }
-    let rows = sleepers.rows;
     let later = Sleepers {
         sum: sum + gap,
-        count: sleepers.count,
-        rows,
+        ..sleepers
     };
     answered(later, Follows::Nothing)
 }
@@ -200,29 +160,20 @@ pub fn ask(sleepers: Sleepers, number: u32, a1: u32) -> Turn
     ensures { Comes (ask number a1 (view sleepers)) result }
 {
     if is_outside(number) {
-        return refused(sleepers, NO_SUCH_PROC);
+        return refused(sleepers, Refusal::NoSuchProc);
     }
     let rows = sleepers.rows;
-    let n = sleepers.count;
-    let place = place_of(rows, n, number);
-    if let Found::At(_) = place {
-        return refused(sleepers, ASLEEP_ALREADY);
+    let line = &rows[..sleepers.count];
+    if place_of(line, number).is_some() {
+        return refused(sleepers, Refusal::AsleepAlready);
     }
     if SIGN <= a1 {
         return answered(sleepers, Follows::Ends);
     }
-    let sum = sleepers.sum;
-    let wake = sum + a1 as u64 * SECOND;
-    let at = no_later(rows, n, wake);
-    let more = put_in(rows, n, at, Sleeper { wake, number });
-    answered(
-        Sleepers {
-            sum,
-            count: n + 1,
-            rows: more,
-        },
-        Follows::Sleeps,
-    )
+    let wake = sleepers.sum + a1 as u64 * SECOND;
+    let at = no_later(line, wake);
+    let more = put_in(sleepers, at, Sleeper { wake, number });
+    answered(more, Follows::Sleeps)
 }
 
 // A tick: "just those whose wake time is not above that sum are woken, soonest first".
@@ -231,26 +182,20 @@ pub fn tick(sleepers: Sleepers) -> Turn
     ensures { Comes (tick (view sleepers)) result }
 {
     let rows = sleepers.rows;
-    let n = sleepers.count;
-    let sum = sleepers.sum;
-    let k = no_later(rows, n, sum);
+    let k = no_later(&rows[..sleepers.count], sleepers.sum);
     if k == 0 {
         return answered(sleepers, Follows::Nothing);
     }
-    let woken = numbers(rows, k);
-    let left = cut_out(rows, n, 0, k);
+    let answer = Answer {
+        follows: Follows::Wakes,
+        count: k,
+        woken: numbers(&rows[..k]),
+        ..QUIET
+    };
+    let left = cut_out(sleepers, 0, k);
     Turn {
-        answer: Answer {
-            refusal: 0,
-            follows: Follows::Wakes,
-            count: k,
-            woken,
-        },
-        sleepers: Sleepers {
-            sum,
-            count: n - k,
-            rows: left,
-        },
+        answer,
+        sleepers: left,
     }
 }
 
@@ -260,23 +205,14 @@ pub fn end(sleepers: Sleepers, number: u32) -> Turn
     ensures { Comes (end number (view sleepers)) result }
 {
     if is_outside(number) {
-        return refused(sleepers, NO_SUCH_PROC);
+        return refused(sleepers, Refusal::NoSuchProc);
     }
     let rows = sleepers.rows;
-    let n = sleepers.count;
-    let place = place_of(rows, n, number);
-    let Found::At(i) = place else {
+    let Some(i) = place_of(&rows[..sleepers.count], number) else {
         return answered(sleepers, Follows::Nothing);
     };
-    let left = cut_out(rows, n, i, 1);
-    answered(
-        Sleepers {
-            sum: sleepers.sum,
-            count: n - 1,
-            rows: left,
-        },
-        Follows::Ended,
-    )
+    let left = cut_out(sleepers, i, 1);
+    answered(left, Follows::Ended)
 }
 
 // Whatever may happen.

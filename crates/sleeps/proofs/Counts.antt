@@ -7,7 +7,7 @@ use Prim.Native.Nat.{ℕ, ◌+◌}
 use native.Mathlib.Omega.{arith}
 use lib.Dec.{leb}
 use lib.ListN.{length}
-use Rattle.rules.specs.Words.{those, count, sum}
+use Rattle.rules.specs.Words.{those, count}
 use Rattle.rules.proofs.Cases.{if_cases}
 use Rattle.rules.proofs.Lines.{count_le}
 use Rattle.rules.specs.Numbers.{time_limit}

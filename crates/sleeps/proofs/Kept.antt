@@ -9,7 +9,7 @@ use native.Mathlib.Omega.{arith}
 use lib.Dec.{eqb, leb}
 use lib.ListN.{length, get_or}
 use borrow.Author.Tests.{leb-true, le-leb, lt-leb, eqb-true, eq-eqb}
-use Rattle.rules.specs.Words.{those, count, sum, many, All}
+use Rattle.rules.specs.Words.{those, count, many, All}
 use Rattle.rules.proofs.Cases.{if_cases, get_or_past}
 use Rattle.rules.proofs.Sums.{sum_over}
 use Rattle.rules.proofs.Free.{many_all, within_limits, below_limits}

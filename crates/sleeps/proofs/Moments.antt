@@ -12,11 +12,12 @@ use borrow.Author.Tests.{eqb-true, eqb-false, ne_eqb}
 use Rattle.rules.specs.Words.{those, among, count, many}
 use Rattle.rules.proofs.Cases.{if_cases}
 use Rattle.rules.proofs.Lines.{those_those}
-use Rattle.rules.specs.Numbers.{time_limit, time_full}
+use Rattle.rules.specs.Numbers.{time_limit}
 use Rattle.sleeps.specs.declared.Operation.{Operation}
 use Rattle.sleeps.specs.declared.Operation.TheVariants.{Gap, Ask, Tick, End}
 use Rattle.sleeps.specs.declared.Follows.TheVariants.{Nothing, Ended}
 use Rattle.sleeps.specs.declared.Sleeper.{Sleeper}
+use Rattle.sleeps.specs.declared.Refusal.TheVariants.{TimeFull}
 use Rattle.sleeps.specs.Rules.{State, Outcome, refused, answered, outside, is, sleeping, negative, sleeper, insert, due, number_of, called, pass, ask, tick, end, step, replies}
 use Rattle.sleeps.specs.Sound.{Sound}
 use Rattle.sleeps.specs.Told.{later, woken_by, ended_by, foretold, tells_end, told}
@@ -31,7 +32,7 @@ if_ap f false x y = refl
 -- the sum after an operation is what the operations tell
 pub sum_told : (o : Operation) (s : State) → (step o s).after.sum ≡ later o s.sum
 unfolding step pass ask tick end
-sum_told (Gap g) s = if_ap (λ (o : Outcome). o.after.sum) (leb (s.sum + g) time_limit) (answered Nothing [] (record { sum = s.sum + g; asleep = s.asleep })) (refused time_full s)
+sum_told (Gap g) s = if_ap (λ (o : Outcome). o.after.sum) (leb (s.sum + g) time_limit) (answered Nothing [] (record { sum = s.sum + g; asleep = s.asleep })) (refused TimeFull s)
 sum_told (Ask n a1) s =
     if_cases (λ (o : Outcome). o.after.sum ≡ s.sum) (outside n) (λ _. refl) (λ _. if_cases (λ (o : Outcome). o.after.sum ≡ s.sum) (sleeping n s) (λ _. refl) (λ _. if_cases (λ (o : Outcome). o.after.sum ≡ s.sum) (negative a1) (λ _. refl) (λ _. refl)))
 sum_told Tick s = refl

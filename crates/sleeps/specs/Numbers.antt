@@ -1,5 +1,8 @@
 -- The numbers of 02, (x), each said here and nowhere else.
-use Rattle.std.specs.Prelude.{ℕ, ◌^◌}
+use Rattle.std.specs.Prelude.{ℕ, ◌^◌, Option, Some, None}
+use Rattle.rules.specs.Numbers.{time_full}
+use Rattle.sleeps.specs.declared.Refusal.{Refusal}
+use Rattle.sleeps.specs.declared.Refusal.TheVariants.{TimeFull, NoSuchProc, AsleepAlready}
 
 -- "a U-proc number outside 1 to 8"
 abbrev pub first_proc : ℕ
@@ -19,6 +22,17 @@ no_such_proc = 9
 -- "a second request while asleep, negative too, with 10"
 abbrev pub asleep_already : ℕ
 asleep_already = 10
+
+-- and 01's own, of a gap
+abbrev pub refusal_number : Refusal → ℕ
+refusal_number TimeFull = time_full
+refusal_number NoSuchProc = no_such_proc
+refusal_number AsleepAlready = asleep_already
+
+-- the refusal's number, or 0
+abbrev pub told_number : Option Refusal → ℕ
+told_number None = 0
+told_number (Some r) = refusal_number r
 
 -- "a1 is read as signed": a word of 32 bits from here on is below zero
 abbrev pub sign : ℕ

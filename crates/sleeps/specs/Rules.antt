@@ -1,12 +1,14 @@
 -- THE RULE BOOK of sleeping: 02, (x), as short definitions that compute.
-use Rattle.std.specs.Prelude.{Bool, not, ◌&&◌, List, [], ◌∷◌, map, ℕ, ◌+◌, ◌*◌, eqb, leb, ltb, if◌then◌else◌}
+use Rattle.std.specs.Prelude.{Bool, not, Option, Some, None, ◌&&◌, List, [], ◌∷◌, map, ℕ, ◌+◌, ◌*◌, eqb, leb, ltb, if◌then◌else◌}
 use Rattle.rules.specs.Words.{those, any}
-use Rattle.rules.specs.Numbers.{time_limit, time_full}
-use Rattle.sleeps.specs.Numbers.{first_proc, last_proc, no_such_proc, asleep_already, sign, second}
+use Rattle.rules.specs.Numbers.{time_limit}
+use Rattle.sleeps.specs.Numbers.{first_proc, last_proc, sign, second}
 use Rattle.sleeps.specs.declared.Operation.{Operation}
 use Rattle.sleeps.specs.declared.Operation.TheVariants.{Gap, Ask, Tick, End}
 use Rattle.sleeps.specs.declared.Follows.{Follows}
 use Rattle.sleeps.specs.declared.Follows.TheVariants.{Nothing, Sleeps, Ends, Wakes, Ended}
+use Rattle.sleeps.specs.declared.Refusal.{Refusal}
+use Rattle.sleeps.specs.declared.Refusal.TheVariants.{TimeFull, NoSuchProc, AsleepAlready}
 use Rattle.sleeps.specs.declared.Sleeper.{Sleeper}
 
 -- ── The sleepers, and an answer ──
@@ -17,7 +19,7 @@ pub record State : Type 0 where
   pub asleep : List Sleeper
 
 pub record Reply : Type 0 where
-  pub refusal : ℕ
+  pub refusal : Option Refusal
   pub follows : Follows
   pub woken : List ℕ
 
@@ -33,11 +35,11 @@ abbrev pub with_asleep : List Sleeper → State → State
 with_asleep xs s = record { sum = s.sum; asleep = xs }
 
 -- a refusal, "and neither changes anything"
-abbrev pub refused : ℕ → State → Outcome
-refused n s = record { reply = record { refusal = n; follows = Nothing; woken = [] }; after = s }
+abbrev pub refused : Refusal → State → Outcome
+refused r s = record { reply = record { refusal = Some r; follows = Nothing; woken = [] }; after = s }
 
 abbrev pub answered : Follows → List ℕ → State → Outcome
-answered f ns s = record { reply = record { refusal = 0; follows = f; woken = ns }; after = s }
+answered f ns s = record { reply = record { refusal = None; follows = f; woken = ns }; after = s }
 
 -- ── Words ──
 
@@ -76,14 +78,14 @@ number_of x = x.number
 
 -- 01: "the sum of accepted gaps would exceed .. 2 to the 62": such a gap is no accepted one
 unfoldable pub pass : ℕ → State → Outcome
-pass gap s = if leb (s.sum + gap) time_limit then answered Nothing [] (record { sum = s.sum + gap; asleep = s.asleep }) else refused time_full s
+pass gap s = if leb (s.sum + gap) time_limit then answered Nothing [] (record { sum = s.sum + gap; asleep = s.asleep }) else refused TimeFull s
 
 -- "a U-proc asks .. to sleep a1 seconds": "outside 1 to 8 is refused with 9, a second request while asleep,
 -- negative too, with 10"; "negative ends the U-proc"
 unfoldable pub ask : ℕ → ℕ → State → Outcome
 ask n a1 s =
-    if outside n then refused no_such_proc s
-    else (if sleeping n s then refused asleep_already s
+    if outside n then refused NoSuchProc s
+    else (if sleeping n s then refused AsleepAlready s
     else (if negative a1 then answered Ends [] s
     else answered Sleeps [] (with_asleep (insert (sleeper n a1 s) s.asleep) s)))
 
@@ -101,7 +103,7 @@ tick s = answered (wakes (called s)) (called s) (with_asleep (those (λ x. not (
 -- "or ended": a U-proc that ends sleeps no more
 unfoldable pub end : ℕ → State → Outcome
 end n s =
-    if outside n then refused no_such_proc s
+    if outside n then refused NoSuchProc s
     else (if sleeping n s then answered Ended [] (with_asleep (those (λ x. not (is n x)) s.asleep) s) else answered Nothing [] s)
 
 unfoldable pub step : Operation → State → Outcome

@@ -1,6 +1,9 @@
 // What may happen to the sleepers, and what is answered. The rules are in specs/Rules.antt.
 #![tactic(auto)]
 
+ghost use Rattle.std.specs.Prelude.{◌≡◌};
+ghost use Rattle.sleeps.specs.Numbers.{refusal_number};
+
 // "eight at most"
 pub const PLACES: usize = 8;
 
@@ -12,6 +15,27 @@ pub enum Operation {
     Ask(u32, u32),
     Tick,
     End(u32),
+}
+
+// Why an operation is refused.
+#[derive(Clone, Copy, PartialEq, Eq)]
+pub enum Refusal {
+    TimeFull,
+    NoSuchProc,
+    AsleepAlready,
+}
+
+impl Refusal {
+    // The number that the rules give it.
+    pub fn number(self) -> u8
+        ensures { result ≡ refusal_number self }
+    {
+        match self {
+            Refusal::TimeFull => 3,
+            Refusal::NoSuchProc => 9,
+            Refusal::AsleepAlready => 10,
+        }
+    }
 }
 
 // What follows: the U-proc sleeps; it is to be ended; some are woken; one ended while asleep; or nothing.
@@ -32,6 +56,7 @@ pub struct Sleeper {
 }
 
 // The sum of the gaps, and those asleep, by wake time: the first `count` rows. The other rows are nought.
+// Kept, a count beside an array: no heap, fixed memory, and hosts read both fields.
 #[derive(Clone, Copy)]
 pub struct Sleepers {
     pub sum: u64,
@@ -39,11 +64,12 @@ pub struct Sleepers {
     pub rows: [Sleeper; PLACES],
 }
 
-// The refusal or 0, what follows, and the U-procs woken, soonest first: the first `count` of them. The others are
+// The refusal, if it is one, what follows, and the U-procs woken, soonest first: the first `count` of them. The others are
 // nought.
+// Kept, a count beside an array: no heap, fixed memory, and hosts read both fields.
 #[derive(Clone, Copy)]
 pub struct Answer {
-    pub refusal: u8,
+    pub refusal: Option<Refusal>,
     pub follows: Follows,
     pub count: usize,
     pub woken: [u32; PLACES],

@@ -10,10 +10,8 @@ use lib.Dec.{eqb, ltb}
 use lib.ListN.{length, drop, length-drop}
 use lib.Seq.{length-take-le}
 use borrow.Author.Tests.{eq-eqb, ne_eqb, eqb-true, eqb-false, ltb-true, ltb-false}
-use Rattle.words.specs.declared.Class.{Class}
-use Rattle.words.specs.declared.Class.TheVariants.{Blank, Solid, Content, Row}
 use Rattle.words.specs.declared.Word.{Word}
-use Rattle.words.specs.Texts.{passes, run, behind, stop_of, line_at, next_word, word_at, nth}
+use Rattle.words.specs.Texts.{blank, solid, content, row, run, behind, stop_of, line_at, next_word, word_at, nth}
 
 run_within : (p : ℕ → Bool) (s : List ℕ) → run p s ≤ length s
 unfolding run
@@ -24,8 +22,8 @@ run_within p (b ∷ s) = go (p b) (run_within p s)
     go true ih = omega arith
     go false ih = omega arith
 
-pub behind_within : (k : Class) (text : List ℕ) (at : ℕ) → at ≤ length text → behind k text at ≤ length text
-behind_within k text at h = omega (arith, run_within (passes k) (drop at text), length-drop at text)
+pub behind_within : (p : ℕ → Bool) (text : List ℕ) (at : ℕ) → at ≤ length text → behind p text at ≤ length text
+behind_within p text at h = omega (arith, run_within p (drop at text), length-drop at text)
 
 -- ── A word ──
 
@@ -35,7 +33,7 @@ pub record Within (w : Word) (n : ℕ) : Type 0 where
 
 next_within : (line : List ℕ) (at : ℕ) → at ≤ length line → Within (next_word line at) (length line)
 unfolding next_word
-next_within line at h = record { order = omega arith; fits = behind_within Solid line (behind Blank line at) (behind_within Blank line at h) }
+next_within line at h = record { order = omega arith; fits = behind_within solid line (behind blank line at) (behind_within blank line at h) }
 
 pub word_within : (line : List ℕ) (k : ℕ) → Within (word_at line k) (length line)
 unfolding word_at
@@ -63,10 +61,10 @@ module _ (text : List ℕ) (at : ℕ) (h : at < length text) where
 
   pub end_within : (line_at text at).end ≤ length text
   unfolding line_at
-  end_within = behind_within Content text at (omega arith)
+  end_within = behind_within content text at (omega arith)
 
   stop_within : stop_of text at ≤ length text
-  stop_within = behind_within Row text (behind Content text at) (behind_within Content text at (omega arith))
+  stop_within = behind_within row text (behind content text at) (behind_within content text at (omega arith))
 
   -- the next line begins further on, and not past the end
   pub next_further : (at < (line_at text at).next) × ((line_at text at).next ≤ length text)

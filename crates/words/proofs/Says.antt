@@ -13,7 +13,7 @@ use borrow.Author.Tests.{le-leb, lt-leb}
 use Rattle.report.specs.Text.{newline, decimal}
 use Rattle.report.proofs.Decimal.{length_within}
 use Rattle.report.specs.Buffer.{Puts}
-use Rattle.report.specs.declared.Written.TheVariants.{Bytes, NoRoom}
+use Rattle.std.specs.declared.option.Option.TheVariants.{Some, None}
 use Rattle.words.specs.Complaints.{was_found, was_expected, most_shown, shown, around, complaint, Complains}
 
 shown_within : (word : List ℕ) → length (shown word) ≤ most_shown
@@ -49,14 +49,14 @@ module _ (n : ℕ) (word expected : List ℕ) where
   from_number = decimal n ++ from_found
 
 module _ {text before after : List ℕ} {room next : ℕ} where
-  pub told_all : room ≤ length before → length text ≤ room → Puts text before 0 after next → Complains text room before after (Bytes next)
+  pub told_all : room ≤ length before → length text ≤ room → Puts text before 0 after next → Complains text room before after (Some next)
   told_all h fits p =
       let e : leb room (length before) ≡ true = le-leb room (length before) h in
       record {
         bytes = rw e (p.bytes ∙ sets-eq text before 0 (omega arith) ∙ ap (λ (k : ℕ). text ++ drop k before) (zero-add (length text)));
-        said = rw e (ap Bytes (p.place ∙ zero-add (length text)));
+        said = rw e (ap Some (p.place ∙ zero-add (length text)));
       }
 
-pub told_nothing : (text : List ℕ) (room : ℕ) {before : List ℕ} → length before < room → Complains text room before before NoRoom
+pub told_nothing : (text : List ℕ) (room : ℕ) {before : List ℕ} → length before < room → Complains text room before before None
 told_nothing text room {before} h =
     let e : leb room (length before) ≡ false = lt-leb room (length before) h in record { bytes = rw e; said = rw e }

@@ -1,8 +1,8 @@
 -- What a program says of a bad line: "line N: found 'WORD', expected TEXT", and a newline.
 use Rattle.std.specs.Prelude.{◌≡◌, List, [], ◌∷◌, ◌++◌, ℕ, leb, length, take, drop, if◌then◌else◌}
 use Rattle.report.specs.Text.{newline, decimal}
-use Rattle.report.specs.declared.Written.{Written}
-use Rattle.report.specs.declared.Written.TheVariants.{Bytes, NoRoom}
+use Rattle.std.specs.declared.option.Option.{Option}
+use Rattle.std.specs.declared.option.Option.TheVariants.{Some, None}
 
 -- "line ", ": found '" and "', expected ", in bytes
 abbrev pub in_line : List ℕ
@@ -30,6 +30,6 @@ complaint n word expected = in_line ++ (decimal n ++ (was_found ++ (shown word +
 
 -- where a buffer has this much room the text stands at its front and all behind it is as it was; else all is as it
 -- was, and that is told
-pub record Complains (text : List ℕ) (room : ℕ) (before after : List ℕ) (r : Written) : Type 0 where
+pub record Complains (text : List ℕ) (room : ℕ) (before after : List ℕ) (r : Option ℕ) : Type 0 where
   pub bytes : after ≡ if leb room (length before) then text ++ drop (length text) before else before
-  pub said : r ≡ if leb room (length before) then Bytes (length text) else NoRoom
+  pub said : r ≡ if leb room (length before) then Some (length text) else None

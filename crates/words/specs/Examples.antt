@@ -5,7 +5,7 @@ use Prim.Native.String.{String, len, char_at}
 use Rattle.report.specs.Text.{digits, decimal}
 use Rattle.words.specs.declared.Line.{Line}
 use Rattle.words.specs.declared.Word.{Word}
-use Rattle.words.specs.declared.Number.TheVariants.{Is, Not}
+use Rattle.std.specs.declared.option.Option.TheVariants.{Some, None}
 use Rattle.words.specs.Texts.{run, line_at, next_word, word_at}
 use Rattle.words.specs.Figures.{digit_value, all_digits, value, more_of, number_of, decimal_of, hexadecimal_of, signed_word_of}
 use Rattle.words.specs.Complaints.{complaint}
@@ -35,15 +35,15 @@ words : map (word_at (bytes " \tfault 3\t0x8 ")) (0 ∷ 1 ∷ 2 ∷ 3 ∷ []) �
 unfolding bytes codes word_at next_word run
 words = refl
 
-decimals : map (λ s. decimal_of 255 (bytes s)) ("0" ∷ "007" ∷ "255" ∷ "256" ∷ "" ∷ "1a" ∷ "-1" ∷ "99999999999999999999" ∷ []) ≡ Is 0 ∷ Is 7 ∷ Is 255 ∷ Not ∷ Not ∷ Not ∷ Not ∷ Not ∷ []
+decimals : map (λ s. decimal_of 255 (bytes s)) ("0" ∷ "007" ∷ "255" ∷ "256" ∷ "" ∷ "1a" ∷ "-1" ∷ "99999999999999999999" ∷ []) ≡ Some 0 ∷ Some 7 ∷ Some 255 ∷ None ∷ None ∷ None ∷ None ∷ None ∷ []
 unfolding bytes codes decimal_of number_of more_of all_digits value digit_value
 decimals = refl
 
-hexadecimals : map (λ s. hexadecimal_of (2 ^ 32 - 1) (bytes s)) ("0x80001" ∷ "0xBFfff" ∷ "0x" ∷ "x1" ∷ "0xg" ∷ "0x100000000" ∷ []) ≡ Is 524289 ∷ Is 786431 ∷ Not ∷ Not ∷ Not ∷ Not ∷ []
+hexadecimals : map (λ s. hexadecimal_of (2 ^ 32 - 1) (bytes s)) ("0x80001" ∷ "0xBFfff" ∷ "0x" ∷ "x1" ∷ "0xg" ∷ "0x100000000" ∷ []) ≡ Some 524289 ∷ Some 786431 ∷ None ∷ None ∷ None ∷ None ∷ []
 unfolding bytes codes hexadecimal_of number_of more_of all_digits value digit_value
 hexadecimals = refl
 
-signs : map (λ s. signed_word_of (bytes s)) ("5" ∷ "-1" ∷ "-2147483648" ∷ "-0" ∷ "2147483648" ∷ "-2147483649" ∷ "-" ∷ "--1" ∷ []) ≡ Is 5 ∷ Is 4294967295 ∷ Is 2147483648 ∷ Is 0 ∷ Not ∷ Not ∷ Not ∷ Not ∷ []
+signs : map (λ s. signed_word_of (bytes s)) ("5" ∷ "-1" ∷ "-2147483648" ∷ "-0" ∷ "2147483648" ∷ "-2147483649" ∷ "-" ∷ "--1" ∷ []) ≡ Some 5 ∷ Some 4294967295 ∷ Some 2147483648 ∷ Some 0 ∷ None ∷ None ∷ None ∷ None ∷ []
 unfolding bytes codes signed_word_of decimal_of number_of more_of all_digits value digit_value
 signs = refl
 

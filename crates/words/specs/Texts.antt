@@ -1,8 +1,6 @@
 -- A text as lines and words.
 use Rattle.std.specs.Prelude.{Bool, true, false, not, ◌&&◌, ◌||◌, List, [], ◌∷◌, ℕ, zero, suc, ◌+◌, ◌-◌, eqb, ltb, length, take, drop, if◌then◌else◌}
 use Rattle.report.specs.Text.{newline, space}
-use Rattle.words.specs.declared.Class.{Class}
-use Rattle.words.specs.declared.Class.TheVariants.{Blank, Solid, Content, Row}
 use Rattle.words.specs.declared.Line.{Line}
 use Rattle.words.specs.declared.Word.{Word}
 
@@ -22,11 +20,11 @@ blank b = eqb b space || eqb b tab
 abbrev pub content : ℕ → Bool
 content b = not (eqb b newline || eqb b remark)
 
-abbrev pub passes : Class → ℕ → Bool
-passes Blank b = blank b
-passes Solid b = not (blank b)
-passes Content b = content b
-passes Row b = not (eqb b newline)
+abbrev pub solid : ℕ → Bool
+solid b = not (blank b)
+
+abbrev pub row : ℕ → Bool
+row b = not (eqb b newline)
 
 -- how many bytes, from the first on, pass the test
 unfoldable pub run : (ℕ → Bool) → List ℕ → ℕ
@@ -34,20 +32,20 @@ run p [] = 0
 run p (b ∷ bs) = if p b then suc (run p bs) else 0
 
 -- the place behind the run that begins at a place
-abbrev pub behind : Class → List ℕ → ℕ → ℕ
-behind k text at = at + run (passes k) (drop at text)
+abbrev pub behind : (ℕ → Bool) → List ℕ → ℕ → ℕ
+behind p text at = at + run p (drop at text)
 
 -- ── The line and the words at a place ──
 
 -- where a line ends, before its newline or at the end of the text
 abbrev pub stop_of : List ℕ → ℕ → ℕ
-stop_of text at = behind Row text (behind Content text at)
+stop_of text at = behind row text (behind content text at)
 
 unfoldable pub line_at : List ℕ → ℕ → Line
-line_at text at = record { end = behind Content text at; next = if ltb (stop_of text at) (length text) then stop_of text at + 1 else stop_of text at }
+line_at text at = record { end = behind content text at; next = if ltb (stop_of text at) (length text) then stop_of text at + 1 else stop_of text at }
 
 unfoldable pub next_word : List ℕ → ℕ → Word
-next_word line at = record { from = behind Blank line at; to = behind Solid line (behind Blank line at) }
+next_word line at = record { from = behind blank line at; to = behind solid line (behind blank line at) }
 
 -- the word with k before it
 unfoldable pub word_at : List ℕ → ℕ → Word

@@ -1,15 +1,15 @@
 // A text taken apart by lines and words, for the programs that read one, and the complaint that such a program
-// makes of a bad line. A line ends at a newline; blanks and tabs stand between its words; `#` begins a remark to
+// makes of a bad line. A word that is no number that is allowed says `None`. A line ends at a newline; blanks and tabs stand between its words; `#` begins a remark to
 // the line's end. A place is counted in bytes from 0; at or past the end of a text there is nothing more.
 #![tactic(auto)]
 
-ghost use Rattle.std.specs.Prelude.{◌≡◌, ◌+◌, ◌≤◌, ◌<◌, eqb, length, drop};
+ghost use Rattle.std.specs.Prelude.{◌≡◌, ℕ, Bool, ◌+◌, ◌≤◌, ◌<◌, eqb, length, drop};
 ghost use Rattle.report.specs.Buffer.{Puts};
-ghost use Rattle.words.specs.Texts.{blank, content, passes, run, line_at, next_word, word_at, nth, same};
-ghost use Rattle.words.specs.Figures.{digit_value, number_of, decimal_of, hexadecimal_of, signed_word_of};
+ghost use Rattle.words.specs.Texts.{blank, content, run, line_at, next_word, word_at, nth, same};
+ghost use Rattle.words.specs.Figures.{base_number, digit_of, number_of, decimal_of, hexadecimal_of, signed_word_of};
 ghost use Rattle.words.specs.Complaints.{shown, around, complaint, Complains};
 
-use report::{Written, put_byte, put_bytes, put_decimal};
+use report::{put_byte, put_bytes, put_decimal};
 
 // The line at a place: where what it says ends, before its remark or its newline, and where the next line begins.
 #[derive(Clone, Copy)]
@@ -25,75 +25,34 @@ pub struct Word {
     pub to: usize,
 }
 
-// What a word says as a number, or that it is not a number that is allowed.
-#[derive(Clone, Copy)]
-pub enum Number {
-    Is(u64),
-    Not,
-}
-
-// What a run of bytes is made of.
-#[derive(Clone, Copy)]
-enum Class {
-    Blank,
-    Solid,
-    Content,
-    Row,
-}
-
 // A blank or a tab.
 fn is_blank(b: u8) -> bool
     ensures { result ≡ blank b }
 {
-    match b {
-        b' ' => true,
-        b'\t' => true,
-        _ => false,
-    }
+    matches!(b, b' ' | b'\t')
 }
 
 // Neither a newline nor the `#` of a remark.
 fn is_content(b: u8) -> bool
     ensures { result ≡ content b }
 {
-    match b {
-        b'\n' => false,
-        b'#' => false,
-        _ => true,
-    }
+    !matches!(b, b'\n' | b'#')
 }
 
-fn within(class: Class, b: u8) -> bool
-    ensures { result ≡ passes class b }
+// The place behind the run of bytes that pass a test, from a place on.
+fn run<F: Fn(u8) -> bool>(text: &[u8], at: usize, passes: F) -> usize
+    requires { F.IsAlwaysCallable passes }
+    ensures { (p : ℕ → Bool) → ((b : ℕ) (r : Bool) → F.post passes b r → r ≡ p b) → result ≡ at + run p (drop at text.now) }
 {
-    match class {
-        Class::Blank => is_blank(b),
-        Class::Solid => !is_blank(b),
-        Class::Content => is_content(b),
-        Class::Row => b != b'\n',
-    }
-}
-
-// The place behind the run of such bytes that begins at a place.
-fn run(text: &[u8], at: usize, class: Class) -> usize
-    ensures { result ≡ at + run (passes class) (drop at text.now) }
-{
-    let mut i = at;
-    while i < text.len() {
-        if !within(class, text[i]) {
-            return i;
-        }
-        i += 1;
-    }
-    i
+    at + text.iter().skip(at).take_while(|b| passes(**b)).count()
 }
 
 // The line that begins at a place.
 pub fn line_at(text: &[u8], at: usize) -> Line
     ensures { result ≡ line_at text.now at }
 {
-    let end = run(text, at, Class::Content);
-    let stop = run(text, end, Class::Row);
+    let end = run(text, at, is_content);
+    let stop = run(text, end, |b| b != b'\n');
     if stop < text.len() {
         return Line {
             end,
@@ -107,8 +66,8 @@ pub fn line_at(text: &[u8], at: usize) -> Line
 fn next_word(line: &[u8], at: usize) -> Word
     ensures { result ≡ next_word line.now at }
 {
-    let from = run(line, at, Class::Blank);
-    let to = run(line, from, Class::Solid);
+    let from = run(line, at, is_blank);
+    let to = run(line, from, |b| !is_blank(b));
     Word { from, to }
 }
 
@@ -117,174 +76,142 @@ pub fn word_at(line: &[u8], k: usize) -> Word
     ensures { result ≡ word_at line.now k }
 {
     let mut found = next_word(line, 0);
-    let mut i = 0;
-    while i < k {
-        let at = found.to;
-        found = next_word(line, at);
-        i += 1;
+    for _ in 0..k {
+        found = next_word(line, found.to);
     }
     found
+}
+
+// Its bytes: none where the line has no such word.
+pub fn nth_word(line: &[u8], k: usize) -> &[u8]
+    ensures { result.now ≡ nth line.now k }
+{
+    let word = word_at(line, k);
+    &line[word.from..word.to]
 }
 
 // Two words are the same, byte by byte.
 pub fn same(one: &[u8], other: &[u8]) -> bool
     ensures { result ≡ same one.now other.now }
 {
-    if one.len() != other.len() {
-        return false;
-    }
-    let mut i = 0;
-    while i < one.len() {
-        if one[i] != other[i] {
-            return false;
-        }
-        i += 1;
-    }
-    true
+    one == other
 }
 
-// What a digit stands for; 16 for what is none.
-fn digit_value(b: u8) -> u64
-    ensures { result ≡ digit_value b }
+// What a digit stands for.
+fn digit_value(b: u8) -> Option<u64>
+    ensures { result ≡ digit_of b }
 {
-    if b < b'0' {
-        return 16;
+    match b {
+        b'0'..=b'9' => Some(u64::from(b - b'0')),
+        b'A'..=b'F' => Some(u64::from(b - b'A') + 10),
+        b'a'..=b'f' => Some(u64::from(b - b'a') + 10),
+        _ => None,
     }
-    if b <= b'9' {
-        return (b - b'0') as u64;
-    }
-    if b < b'A' {
-        return 16;
-    }
-    if b <= b'F' {
-        return (b - b'A') as u64 + 10;
-    }
-    if b < b'a' {
-        return 16;
-    }
-    if b <= b'f' {
-        return (b - b'a') as u64 + 10;
-    }
-    16
 }
 
-// A number of some base that is not above a limit: at least one digit, and nothing but digits.
-fn figures(word: &[u8], base: u64, limit: u64) -> Number
-    requires { 0 < base }
-    ensures { result ≡ number_of base limit word.now }
+// What the digits of a number count in.
+#[derive(Clone, Copy)]
+enum Base {
+    Ten,
+    Sixteen,
+}
+
+impl Base {
+    fn number(self) -> u64
+        ensures { result ≡ base_number self }
+    {
+        match self {
+            Base::Ten => 10,
+            Base::Sixteen => 16,
+        }
+    }
+}
+
+// A number of a base that is not above a limit: at least one digit, and nothing but digits.
+fn figures(word: &[u8], base: Base, limit: u64) -> Option<u64>
+    ensures { result ≡ number_of (base_number base) limit word.now }
 {
-    if word.len() == 0 {
-        return Number::Not;
+    if word.is_empty() {
+        return None;
     }
-    let most = limit / base;
-    let mut value = 0;
-    let mut i = 0;
-    while i < word.len() {
-        let digit = digit_value(word[i]);
-        if base <= digit {
-            return Number::Not;
+    let number = base.number();
+    let mut value: u64 = 0;
+    for b in word {
+        let digit = digit_value(*b)?;
+        if number <= digit {
+            return None;
         }
-        if most < value {
-            return Number::Not;
+        value = value.checked_mul(number)?.checked_add(digit)?;
+        if limit < value {
+            return None;
         }
-        if limit - value * base < digit {
-            return Number::Not;
-        }
-        value = value * base + digit;
-        i += 1;
     }
-    Number::Is(value)
+    Some(value)
 }
 
 // A decimal number that is not above a limit.
-pub fn decimal(word: &[u8], limit: u64) -> Number
+pub fn decimal(word: &[u8], limit: u64) -> Option<u64>
     ensures { result ≡ decimal_of limit word.now }
 {
-    figures(word, 10, limit)
+    figures(word, Base::Ten, limit)
 }
 
 // A number of base sixteen behind `0x`, not above a limit.
-pub fn hexadecimal(word: &[u8], limit: u64) -> Number
+pub fn hexadecimal(word: &[u8], limit: u64) -> Option<u64>
     ensures { result ≡ hexadecimal_of limit word.now }
 {
-    if word.len() < 2 {
-        return Number::Not;
+    match word {
+        [b'0', b'x', digits @ ..] => figures(digits, Base::Sixteen, limit),
+        _ => None,
     }
-    if word[0] != b'0' {
-        return Number::Not;
-    }
-    if word[1] != b'x' {
-        return Number::Not;
-    }
-    figures(&word[2..], 16, limit)
 }
 
 // A signed decimal number of 32 bits, `-` before one below zero, as the word that stands for it: −1 is 4,294,967,295.
-pub fn signed_word(word: &[u8]) -> Number
+pub fn signed_word(word: &[u8]) -> Option<u64>
     ensures { result ≡ signed_word_of word.now }
 {
-    if word.len() == 0 {
-        return Number::Not;
+    match word {
+        [b'-', digits @ ..] => {
+            let size = decimal(digits, 2147483648)?;
+            Some((4294967296 - size) % 4294967296)
+        }
+        _ => decimal(word, 2147483647),
     }
-    if word[0] != b'-' {
-        return decimal(word, 2147483647);
-    }
-    let size = decimal(&word[1..], 2147483648);
-    let Number::Is(n) = size else {
-        return Number::Not;
-    };
-    if n == 0 {
-        return Number::Is(0);
-    }
-    Number::Is(4294967296 - n)
 }
 
 // The line has no word with k before it.
 pub fn absent_at(line: &[u8], k: usize) -> bool
     ensures { result ≡ eqb (length (nth line.now k)) 0 }
 {
-    let w = word_at(line, k);
-    w.to == w.from
+    nth_word(line, k).is_empty()
 }
 
 // The word with k before it is a given one.
 pub fn same_at(line: &[u8], k: usize, text: &[u8]) -> bool
     ensures { result ≡ same (nth line.now k) text.now }
 {
-    let w = word_at(line, k);
-    let from = w.from;
-    let to = w.to;
-    same(&line[from..to], text)
+    same(nth_word(line, k), text)
 }
 
 // The word with k before it as a decimal number.
-pub fn decimal_at(line: &[u8], k: usize, limit: u64) -> Number
+pub fn decimal_at(line: &[u8], k: usize, limit: u64) -> Option<u64>
     ensures { result ≡ decimal_of limit (nth line.now k) }
 {
-    let w = word_at(line, k);
-    let from = w.from;
-    let to = w.to;
-    decimal(&line[from..to], limit)
+    decimal(nth_word(line, k), limit)
 }
 
 // The word with k before it as a number of base sixteen.
-pub fn hexadecimal_at(line: &[u8], k: usize, limit: u64) -> Number
+pub fn hexadecimal_at(line: &[u8], k: usize, limit: u64) -> Option<u64>
     ensures { result ≡ hexadecimal_of limit (nth line.now k) }
 {
-    let w = word_at(line, k);
-    let from = w.from;
-    let to = w.to;
-    hexadecimal(&line[from..to], limit)
+    hexadecimal(nth_word(line, k), limit)
 }
 
 // The word with k before it as a signed number of 32 bits.
-pub fn signed_word_at(line: &[u8], k: usize) -> Number
+pub fn signed_word_at(line: &[u8], k: usize) -> Option<u64>
     ensures { result ≡ signed_word_of (nth line.now k) }
 {
-    let w = word_at(line, k);
-    let from = w.from;
-    let to = w.to;
-    signed_word(&line[from..to])
+    signed_word(nth_word(line, k))
 }
 
 // As many bytes of a word as a complaint shows.
@@ -305,15 +232,15 @@ fn put_shown(out: &mut [u8], at: usize, word: &[u8]) -> usize
 
 // "line N: found 'WORD', expected TEXT", and a newline: what a program says of a bad line. Refused where the buffer
 // has less than `AROUND` bytes beside the text.
-pub fn complain(out: &mut [u8], number: u64, word: &[u8], expected: &[u8]) -> Written
+pub fn complain(out: &mut [u8], number: u64, word: &[u8], expected: &[u8]) -> Option<usize>
     ensures { Complains (complaint number word.now expected.now) (around + length expected.now) out.old out.new result }
 {
     let room = out.len();
     if room < AROUND {
-        return Written::NoRoom;
+        return None;
     }
     if room - AROUND < expected.len() {
-        return Written::NoRoom;
+        return None;
     }
     let mut at = put_bytes(out, 0, b"line ");
     at = put_decimal(out, at, number);
@@ -322,5 +249,5 @@ pub fn complain(out: &mut [u8], number: u64, word: &[u8], expected: &[u8]) -> Wr
     at = put_bytes(out, at, b"', expected ");
     at = put_bytes(out, at, expected);
     at = put_byte(out, at, b'\n');
-    Written::Bytes(at)
+    Some(at)
 }

@@ -1,12 +1,13 @@
 -- `sleep_text::first_bad` meets its contract: what is found from here on is what is found in the whole. Each line
 -- takes a byte at least.
 -- Assumes nothing.
-use mathlib.Core.Path.{◌≡◌, sym, ap, ◌∙◌}
+use mathlib.Core.Path.{◌≡◌, sym, ◌∙◌}
 use Prim.Native.Nat.{◌≤◌}
 use native.Mathlib.Omega.{arith}
 use lib.ListN.{length}
 use Rattle.words.proofs.Places.{end_place, end_within, next_further}
-use Rattle.sleep_text.specs.Lines.{bad, parsed, line_of}
+use Rattle.std.specs.declared.result.Result.TheVariants.{Err}
+use Rattle.sleep_text.specs.Lines.{parsed, line_of}
 use Rattle.sleep_text.proofs.Passing.{walk_end, walk_bad, walk_on}
 use Rattle.sleep_text.proofs.first_bad.Goals as goal
 
@@ -28,11 +29,11 @@ slice_bounds-parse-end c =
     rw c.line_at-line.ensures (end_place t c.loop-at.at c.loop-at-test.true, end_within t c.loop-at.at c.loop-at-test.true) in
     let w = within in omega (arith, w.1)
 
-pub returns-then-is_bad : goal.returns-then-is_bad
-returns-then-is_bad c =
-    let said : c.parse-said.result ≡ parsed (line_of c.args.text.now c.loop-at.at) = rw (← c.line_at-line.ensures) c.parse-said.ensures in
+pub returns-in-Err : goal.returns-in-Err
+returns-in-Err c =
     let t = c.args.text.now in
-    rw (said, c.line_at-line.ensures) (sym (c.loop-at.invariant.0 ∙ walk_bad t c.loop-at.at c.loop-at.number c.loop-at-test.true (ap bad (sym said) ∙ sym c.is_bad.ensures ∙ c.if-is_bad.true)))
+    let said : Err c.in-Err.bad ≡ parsed (line_of t c.loop-at.at) = rw (← c.line_at-line.ensures) c.in-Err.ensures in
+    rw c.line_at-line.ensures (sym (c.loop-at.invariant.0 ∙ walk_bad t c.loop-at.at c.loop-at.number c.loop-at-test.true c.in-Err.bad said))
 
 pub loop-at-smaller : goal.loop-at-smaller
 loop-at-smaller c =
@@ -41,10 +42,10 @@ loop-at-smaller c =
 
 pub loop-at-preserved : goal.loop-at-preserved
 loop-at-preserved c =
-    let said : c.parse-said.result ≡ parsed (line_of c.args.text.now c.loop-at.at) = rw (← c.line_at-line.ensures) c.parse-said.ensures in
     let t = c.args.text.now in
+    let said : c.parse.result ≡ parsed (line_of t c.loop-at.at) = rw (← c.line_at-line.ensures) c.parse.ensures in
     let f = next_further t c.loop-at.at c.loop-at-test.true in
-    rw c.line_at-line.ensures (c.loop-at.invariant.0 ∙ walk_on t c.loop-at.at c.loop-at.number c.loop-at-test.true (ap bad (sym said) ∙ sym c.is_bad.ensures ∙ c.if-is_bad.false), (f.1, omega (arith, f.0)))
+    rw c.line_at-line.ensures (c.loop-at.invariant.0 ∙ walk_on t c.loop-at.at c.loop-at.number c.loop-at-test.true c.parse.result said c.in_default.not-Err, (f.1, omega (arith, f.0)))
 
 pub returns : goal.returns
 returns c =

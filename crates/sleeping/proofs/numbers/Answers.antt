@@ -1,23 +1,14 @@
--- `sleeping::numbers` meets its contract: the new array up to the place passed, and noughts behind.
+-- `sleeping::numbers` meets its contract: the numbers up to the place passed, and noughts behind.
 -- Assumes nothing.
-use mathlib.Core.Path.{◌≡◌, ◌∙◌}
-use native.Mathlib.Omega.{arith}
-use lib.ListN.{length, replicate}
-use Rattle.sleeps.specs.Numbers.{places}
-use Rattle.sleeping.specs.Rows.{numbers_of}
-use Rattle.sleeping.proofs.Arrays.{write_on, write_end, numbers_long, number_at, numbers_behind}
-use borrow.Author.Rules.{rules}
+use Rattle.std.proofs.Common.{◌≡◌, length, arith, ◌∙◌}
+use Rattle.sleeping.proofs.Arrays.{numbers_more, numbers_are}
 use Rattle.sleeping.proofs.numbers.Goals as goal
 
 pub loop-i-preserved : goal.loop-i-preserved
-loop-i-preserved c =
-    let a = c.args in
-    let long : length a.rows ≡ 8 = search rules in
-    (rw (c.loop-i.invariant.0, ← (number_at a.rows a.n (omega arith) (omega arith) c.loop-i.i (omega arith))) (write_on (numbers_of a.rows a.n) (replicate places 0) c.loop-i.i 0 (numbers_long a.rows a.n (omega arith) (omega arith)) (omega arith)), omega arith)
+loop-i-preserved c = rw c.loop-i.invariant (numbers_more c.args.rows.now c.loop-i.i c.loop-i-test.true c.requires)
 
 pub returns : goal.returns
 returns c =
-    let a = c.args in
-    let long : length a.rows ≡ 8 = search rules in
-    let e : c.loop-i.i ≡ a.n = omega arith in
-    c.loop-i.invariant.0 ∙ write_end (numbers_of a.rows a.n) (replicate places 0) c.loop-i.i (rw e (numbers_behind a.rows a.n (omega arith) (omega arith)))
+    let rows = c.args.rows.now in
+    let e : c.loop-i.i ≡ length rows = omega arith in
+    c.loop-i.invariant ∙ rw e (numbers_are rows)

@@ -1,15 +1,10 @@
--- `sleeping::numbers` meets its contract: the new array up to the place passed, and noughts behind.
+-- `sleeping::numbers` meets its contract: the numbers up to the place passed, and noughts behind.
 -- Assumes nothing.
-use mathlib.Core.Path.{◌≡◌}
-use mathlib.Core.List.{◌++◌}
-use Prim.Native.Nat.{◌-◌, ◌≤◌}
-use lib.ListN.{take, drop, replicate}
+use Rattle.std.proofs.Common.{◌≡◌, map, replicate}
+use Rattle.std.proofs.Math.Seq.{paste}
 use Rattle.sleeps.specs.Numbers.{places}
-use Rattle.sleeping.specs.Rows.{numbers_of}
+use Rattle.sleeps.specs.Rules.{number_of}
 use Rattle.sleeping.proofs.numbers.Given as goal
 
 abbrev pub invariant-loop-i : goal.invariant-loop-i
-invariant-loop-i l = (l.all ≡ take l.i (numbers_of l.rows l.n) ++ drop l.i (replicate places 0)) × (l.i ≤ l.n)
-
-abbrev pub decreases-loop-i : goal.decreases-loop-i
-decreases-loop-i l = l.n - l.i
+invariant-loop-i l = l.all ≡ paste (replicate places 0) 0 (map number_of l.rows) l.i

@@ -1,43 +1,74 @@
 -- `words::figures` meets its contract: the digits left, behind those passed, say what the whole says. The sum stays
 -- within the limit.
 -- Assumes nothing.
-use mathlib.Core.Path.{sym, ◌∙◌}
+use mathlib.Core.Path.{sym, ap, ◌∙◌}
+use Prim.Native.Nat.{ℕ, ◌+◌}
 use native.Mathlib.Omega.{arith}
-use lib.ListN.{length}
-use borrow.Author.Tests.{eq-eqb, ne_eqb}
-use Rattle.words.specs.Figures.{number_of}
-use Rattle.words.proofs.Sums.{more_bad, more_big, more_on, more_end, fits_once_more, too_much, too_much_with, still_within}
+use lib.ListN.{drop, get_or}
+use Rattle.words.specs.Figures.{base_number, number_of, more_of}
+use Rattle.words.proofs.Sums.{told_digit, told_none, base_some, base_most, more_bad, more_big, more_on, more_end}
 use Rattle.words.proofs.figures.Goals as goal
 
-pub returns-then-word-eq0 : goal.returns-then-word-eq0
+pub returns-then-is_empty : goal.returns-then-is_empty
 unfolding number_of
-returns-then-word-eq0 c = let a = c.args in rw (eq-eqb (length a.word.now) 0 c.if-word-eq0.true)
+returns-then-is_empty c = let a = c.args in rw (sym c.is_empty.ensures ∙ c.if-is_empty.true)
 
-pub loop-i-init : goal.loop-i-init
+pub loop-b-init : goal.loop-b-init
 unfolding number_of
-loop-i-init c = let a = c.args in (rw (ne_eqb (length a.word.now) 0 c.if-word-eq0.false), omega arith)
+loop-b-init c = let a = c.args in (rw (sym c.is_empty.ensures ∙ c.if-is_empty.false), omega arith)
 
-pub returns-then-base-digit : goal.returns-then-base-digit
-returns-then-base-digit c =
+pub returns-in_err-digit : goal.returns-in_err-digit
+returns-in_err-digit c =
     let a = c.args in
-    sym (c.loop-i.invariant.0 ∙ more_bad a.base a.limit c.loop-i.value a.word.now c.loop-i.i (omega arith) (rw c.digit_value-digit.ensures at c.if-base-digit.true))
+    let l = c.loop-b in
+    c.from_residual.ensures
+    ∙ sym (l.invariant.0 ∙ more_bad (base_number a.base) a.limit l.value a.word.now l.b-index (omega arith) (omega (arith, base_most a.base, told_none (get_or a.word.now l.b-index 0) c.in_err-digit.ensures)))
 
-pub returns-then-most-value : goal.returns-then-most-value
-returns-then-most-value c =
+pub returns-then-number-digit : goal.returns-then-number-digit
+returns-then-number-digit c =
     let a = c.args in
-    sym (c.loop-i.invariant.0 ∙ more_big a.base a.limit c.loop-i.value a.word.now c.loop-i.i c.requires (omega arith) (too_much a.base a.limit c.loop-i.value c.requires c.if-most-value.true _))
+    let l = c.loop-b in
+    let digit = told_digit (get_or a.word.now l.b-index 0) c.in_ok-digit.digit c.in_ok-digit.ensures in
+    sym (l.invariant.0 ∙ more_bad (base_number a.base) a.limit l.value a.word.now l.b-index (omega arith) (omega (arith, c.number-number.ensures)))
+
+pub returns-in_err-checked_mul : goal.returns-in_err-checked_mul
+returns-in_err-checked_mul c =
+    let a = c.args in
+    let l = c.loop-b in
+    let large = rw c.number-number.ensures at c.in_err-checked_mul.ensures in
+    c.from_residual-in_err-checked_mul.ensures
+    ∙ sym (l.invariant.0 ∙ more_big (base_number a.base) a.limit l.value a.word.now l.b-index (base_some a.base) (omega arith) (omega arith))
+
+pub returns-in_err-value : goal.returns-in_err-value
+returns-in_err-value c =
+    let a = c.args in
+    let l = c.loop-b in
+    let digit = told_digit (get_or a.word.now l.b-index 0) c.in_ok-digit.digit c.in_ok-digit.ensures in
+    let times = rw c.number-number.ensures at c.in_ok-checked_mul.ensures in
+    let large = c.in_err-value.ensures in
+    c.from_residual-in_err-value.ensures
+    ∙ sym (l.invariant.0 ∙ more_big (base_number a.base) a.limit l.value a.word.now l.b-index (base_some a.base) (omega arith) (omega arith))
 
 pub returns-then-limit-value : goal.returns-then-limit-value
 returns-then-limit-value c =
     let a = c.args in
-    sym (c.loop-i.invariant.0 ∙ more_big a.base a.limit c.loop-i.value a.word.now c.loop-i.i c.requires (omega arith) (rw c.digit_value-digit.ensures at (too_much_with a.base a.limit c.loop-i.value c.requires c.digit_value-digit.result c.if-limit-value.true)))
+    let l = c.loop-b in
+    let digit = told_digit (get_or a.word.now l.b-index 0) c.in_ok-digit.digit c.in_ok-digit.ensures in
+    let times = rw c.number-number.ensures at c.in_ok-checked_mul.ensures in
+    let sum = c.in_ok-value.ensures in
+    sym (l.invariant.0 ∙ more_big (base_number a.base) a.limit l.value a.word.now l.b-index (base_some a.base) (omega arith) (omega arith))
 
-pub loop-i-preserved : goal.loop-i-preserved
-loop-i-preserved c =
+pub loop-b-preserved : goal.loop-b-preserved
+loop-b-preserved c =
     let a = c.args in
-    (c.loop-i.invariant.0 ∙ rw c.digit_value-digit.ensures (more_on a.base a.limit c.loop-i.value a.word.now c.loop-i.i (omega arith) (rw c.digit_value-digit.ensures at c.if-base-digit.false)), still_within a.base a.limit c.loop-i.value c.requires c.digit_value-digit.result (fits_once_more a.base a.limit c.loop-i.value c.requires c.if-most-value.false) c.if-limit-value.false)
+    let l = c.loop-b in
+    let digit = told_digit (get_or a.word.now l.b-index 0) c.in_ok-digit.digit c.in_ok-digit.ensures in
+    let times = rw c.number-number.ensures at c.in_ok-checked_mul.ensures in
+    let sum = c.in_ok-value.ensures in
+    (l.invariant.0 ∙ more_on (base_number a.base) a.limit l.value a.word.now l.b-index (omega arith) (omega (arith, c.number-number.ensures)) ∙ ap (λ (n : ℕ). more_of (base_number a.base) a.limit n (drop (l.b-index + 1) a.word.now)) (omega arith), omega arith)
 
 pub returns : goal.returns
 returns c =
     let a = c.args in
-    sym (c.loop-i.invariant.0 ∙ more_end a.base a.limit c.loop-i.value a.word.now c.loop-i.i (omega arith) c.loop-i.invariant.1)
+    let l = c.loop-b in
+    sym (l.invariant.0 ∙ more_end (base_number a.base) a.limit l.value a.word.now l.b-index (omega arith) l.invariant.1)

@@ -2,13 +2,10 @@
 -- within the limit.
 -- Assumes nothing.
 use mathlib.Core.Path.{◌≡◌}
-use Prim.Native.Nat.{◌-◌, ◌≤◌}
-use lib.ListN.{length, drop}
-use Rattle.words.specs.Figures.{number_of, more_of}
+use Prim.Native.Nat.{◌≤◌}
+use lib.ListN.{drop}
+use Rattle.words.specs.Figures.{base_number, number_of, more_of}
 use Rattle.words.proofs.figures.Given as goal
 
-abbrev pub invariant-loop-i : goal.invariant-loop-i
-invariant-loop-i l = (number_of l.base l.limit l.word ≡ more_of l.base l.limit l.value (drop l.i l.word)) × (l.value ≤ l.limit)
-
-abbrev pub decreases-loop-i : goal.decreases-loop-i
-decreases-loop-i l = length l.word - l.i
+abbrev pub invariant-loop-b : goal.invariant-loop-b
+invariant-loop-b l = (number_of (base_number l.fn.base) l.limit l.word ≡ more_of (base_number l.fn.base) l.limit l.value (drop l.b-index l.word)) × (l.value ≤ l.limit)

@@ -7,20 +7,20 @@ use Rattle.words.specs.Figures.{hexadecimal_of}
 use Rattle.words.proofs.Runs.{to_the_end}
 use Rattle.words.proofs.hexadecimal.Goals as goal
 
-pub returns-then-word-lt2 : goal.returns-then-word-lt2
+pub returns-in-48 : goal.returns-in-48
 unfolding hexadecimal_of
-returns-then-word-lt2 c = let w = c.args.word.now in rw (lt-leb 2 (length w) c.if-word-lt2.true)
-
-pub returns-then-word-ne48 : goal.returns-then-word-ne48
-unfolding hexadecimal_of
-returns-then-word-ne48 c = let w = c.args.word.now in rw (le-leb 2 (length w) (omega arith), ne_eqb (get_or w 0 0) 48 c.if-word-ne48.true)
-
-pub returns-then-word-ne120 : goal.returns-then-word-ne120
-unfolding hexadecimal_of
-returns-then-word-ne120 c = let w = c.args.word.now in rw (le-leb 2 (length w) (omega arith), eq-eqb (get_or w 0 0) 48 c.if-word-ne48.false, ne_eqb (get_or w 1 0) 120 c.if-word-ne120.true)
-
-pub returns : goal.returns
-unfolding hexadecimal_of
-returns c =
+returns-in-48 c =
     let w = c.args.word.now in
-    rw (le-leb 2 (length w) (omega arith), eq-eqb (get_or w 0 0) 48 c.if-word-ne48.false, eq-eqb (get_or w 1 0) 120 c.if-word-ne120.false, ← (to_the_end 2 w)) c.figures.ensures
+    rw (le-leb 2 (length w) (omega arith), eq-eqb (get_or w 0 0) 48 (omega arith), eq-eqb (get_or w 1 0) 120 (omega arith), ← (to_the_end 2 w)) c.figures.ensures
+
+pub returns-in_default : goal.returns-in_default
+unfolding hexadecimal_of
+returns-in_default c = let w = c.args.word.now in rw (lt-leb 2 (length w) (omega arith))
+
+pub returns-in_default-3 : goal.returns-in_default-3
+unfolding hexadecimal_of
+returns-in_default-3 c = let w = c.args.word.now in rw (le-leb 2 (length w) (omega arith), ne_eqb (get_or w 0 0) 48 (omega arith))
+
+pub returns-in_default-2 : goal.returns-in_default-2
+unfolding hexadecimal_of
+returns-in_default-2 c = let w = c.args.word.now in rw (le-leb 2 (length w) (omega arith), eq-eqb (get_or w 0 0) 48 (omega arith), ne_eqb (get_or w 1 0) 120 (omega arith))

@@ -1,22 +1,23 @@
--- `words::run` meets its contract: what is left of the run is what is left to be passed.
--- Assumes nothing.
-use mathlib.Core.Path.{sym, ◌∙◌}
-use native.Mathlib.Omega.{arith}
-use Rattle.words.specs.Texts.{passes}
-use Rattle.words.proofs.Runs.{run_hit, run_miss, run_none}
+-- `words::run` meets its contract: what is taken while it passes is the run.
+use mathlib.Core.Path.{ap, sym, ◌∙◌}
+use Prim.Native.Nat.{ℕ, ◌+◌}
+use lib.ListN.{drop}
+use Rattle.std.proofs.Common.{rules}
+use Rattle.std.proofs.lemmas.Iterator.{YieldsList-from_slice}
+use Rattle.std.proofs.lemmas.Iterator.Adapters.{YieldsList-from_skip}
+use Rattle.std.proofs.lemmas.Iterator.Consumers.{YieldsList-at, count_from_yields_List}
+use Rattle.std.proofs.lemmas.Iterator.Search.{YieldsList-from_take_while}
+use Rattle.std.proofs.lemmas.List.Folds.{length-prefix_len}
+use Rattle.words.proofs.Runs.{run_is}
 use Rattle.words.proofs.run.Goals as goal
 
-pub returns-then-not-within : goal.returns-then-not-within
-returns-then-not-within c =
-    let a = c.args in
-    omega (arith, c.loop-i.invariant, run_miss (passes a.class) a.text.now c.loop-i.i (omega arith) (sym c.within.ensures ∙ c.if-not-within.true))
-
-pub loop-i-preserved : goal.loop-i-preserved
-loop-i-preserved c =
-    let a = c.args in
-    omega (arith, c.loop-i.invariant, run_hit (passes a.class) a.text.now c.loop-i.i (omega arith) (sym c.within.ensures ∙ c.if-not-within.false))
-
 pub returns : goal.returns
-returns c =
-    let a = c.args in
-    omega (arith, c.loop-i.invariant, run_none (passes a.class) a.text.now c.loop-i.i (omega arith))
+returns g c = λ p h.
+    let text = c.args.text.now in
+    let at = c.args.at in
+    let count =
+    count_from_yields_List c.take_while.result _ c.count.ensures.ran
+    (YieldsList-from_take_while _ p
+    (YieldsList-at c.take_while.ensures.source (YieldsList-from_skip at (YieldsList-at c.skip.ensures.source (YieldsList-from_slice text c.iter.ensures.rest)) c.skip.ensures.count))
+    c.take_while.ensures.closure c.take_while.ensures.done (λ x b q k. (search rules, h x.now b (search rules)))) in
+    ap (λ (n : ℕ). at + n) (count ∙ length-prefix_len p (drop at text) ∙ sym (run_is p (drop at text)))

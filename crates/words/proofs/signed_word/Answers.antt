@@ -1,37 +1,38 @@
 -- `words::signed_word` meets its contract.
 -- Assumes nothing.
+use mathlib.Core.Path.{refl, ◌∙◌}
 use native.Mathlib.Omega.{arith}
 use lib.ListN.{length, get_or}
-use borrow.Author.Tests.{lt-ltb, le-ltb, eq-eqb, ne_eqb}
+use borrow.Author.Tests.{lt-ltb, le-ltb, ne_eqb, ltb-true, ltb-false}
+use Rattle.std.specs.declared.option.Option.TheVariants.{Some, None}
 use Rattle.report.specs.Text.{minus}
-use Rattle.words.specs.Figures.{decimal_of, number_of, signed_word_of}
-use Rattle.words.proofs.Limits.{signed_not, signed_size, signed_none, signed_some}
+use Rattle.words.specs.Figures.{signed_word_of}
+use Rattle.words.proofs.Limits.{signed_not, signed_size, signed_number}
+use Rattle.words.proofs.signed_word.Goals.{in_default-via-then-word-lt1, in_default-via-else-word-lt1+in_default-1}
 use Rattle.words.proofs.signed_word.Goals as goal
 
-pub returns-then-word-eq0 : goal.returns-then-word-eq0
-unfolding signed_word_of decimal_of number_of
-returns-then-word-eq0 c = let w = c.args.word.now in rw (le-ltb 0 (length w) (omega arith), eq-eqb (length w) 0 c.if-word-eq0.true)
-
-pub returns-then-word-ne45 : goal.returns-then-word-ne45
-unfolding signed_word_of
-returns-then-word-ne45 c = let w = c.args.word.now in rw (lt-ltb 0 (length w) (omega arith), ne_eqb (get_or w 0 0) minus c.if-word-ne45.true) c.decimal.ensures
-
 pub returns-in_default : goal.returns-in_default
+unfolding signed_word_of
 returns-in_default c =
     let w = c.args.word.now in
-    signed_not w (omega arith) c.if-word-ne45.false c.decimal-size.result c.decimal-size.ensures c.in_default.is
+    elim c.in_default.branch [
+      | in_default-via-then-word-lt1 b ↦ rw (le-ltb 0 (length w) (omega (arith, ltb-true))) c.decimal-in_default.ensures
+      | in_default-via-else-word-lt1+in_default-1 b ↦ rw (lt-ltb 0 (length w) (omega (arith, ltb-false)), ne_eqb (get_or w 0 0) minus (omega (arith, ltb-false))) c.decimal-in_default.ensures
+    ]
 
-pub returns-then-n-eq0 : goal.returns-then-n-eq0
-returns-then-n-eq0 c =
+pub returns-in_err-size-in-45 : goal.returns-in_err-size-in-45
+returns-in_err-size-in-45 c =
     let w = c.args.word.now in
-    signed_none w (omega arith) c.if-word-ne45.false c.decimal-size.result c.decimal-size.ensures c.in-Is.n c.in-Is.is c.if-n-eq0.true
+    c.from_residual.ensures ∙ signed_not w (omega arith) (omega arith) None c.in_err-size-in-45.ensures refl
 
 pub overflow_sub-result : goal.overflow_sub-result
 overflow_sub-result c =
     let w = c.args.word.now in
-    omega (arith, signed_size w (omega arith) c.if-word-ne45.false c.decimal-size.result c.decimal-size.ensures c.in-Is.n c.in-Is.is)
+    let size = c.in_ok-size-in-45.size in
+    omega (arith, signed_size w (omega arith) (omega arith) (Some size) c.in_ok-size-in-45.ensures size refl)
 
-pub returns : goal.returns
-returns c =
+pub returns-in_ok-size-in-45 : goal.returns-in_ok-size-in-45
+returns-in_ok-size-in-45 c =
     let w = c.args.word.now in
-    signed_some w (omega arith) c.if-word-ne45.false c.decimal-size.result c.decimal-size.ensures c.in-Is.n c.in-Is.is c.if-n-eq0.false
+    let size = c.in_ok-size-in-45.size in
+    signed_number w (omega arith) (omega arith) (Some size) c.in_ok-size-in-45.ensures size refl

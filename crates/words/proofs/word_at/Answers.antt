@@ -1,14 +1,18 @@
 -- `words::word_at` meets its contract: each turn finds the word behind the last one.
 -- Assumes nothing.
+use mathlib.Core.Path.{ap, ◌∙◌}
 use native.Mathlib.Numerals.{add-one}
 use native.Mathlib.Omega.{arith}
 use Rattle.words.specs.Texts.{word_at}
 use Rattle.words.proofs.word_at.Goals as goal
 
-pub loop-i-init : goal.loop-i-init
+pub loop-init : goal.loop-init
 unfolding word_at
-loop-i-init c = (c.next_word-found.ensures, omega arith)
+loop-init c = c.next_word-found.ensures
 
-pub loop-i-preserved : goal.loop-i-preserved
+pub loop-preserved : goal.loop-preserved
 unfolding word_at
-loop-i-preserved c = (rw (c.next_word-found-in-loop-i.ensures, c.loop-i.invariant.0, add-one), omega arith)
+loop-preserved c = rw (c.next_word-found-in-loop.ensures, c.loop.invariant, add-one)
+
+pub returns : goal.returns
+returns c = c.loop.invariant ∙ ap (word_at c.args.line.now) (omega arith)
