@@ -57,6 +57,18 @@ fill_take (suc n) zero l h = absurd (not-suc-le-zero h)
 fill_take (suc n) (suc m) [] h = refl
 fill_take (suc n) (suc m) (x ∷ l) h = ap (λ (z : List Row). x ∷ z) (fill_take n m l (le_of_suc-le-suc h))
 
+-- some rows, and free ones behind them
+fill_parts : (n : ℕ) (l : List Row) → length l ≤ n → l ++ drop (length l) (replicate n rules.free) ≡ fill n l
+unfolding fill
+fill_parts n [] h = fill_none n
+fill_parts zero (x ∷ l) h = absurd (not-suc-le-zero h)
+fill_parts (suc n) (x ∷ l) h = ap (λ (z : List Row). x ∷ z) (fill_parts n l (le_of_suc-le-suc h))
+
+pub fill_front : (n m : ℕ) (l : List Row) → m ≤ n → m ≤ length l → take m l ++ drop m (replicate n rules.free) ≡ fill n (take m l)
+fill_front n m l h k =
+    let e : length (take m l) ≡ m = length-take-le m l k in
+    subst (λ (i : ℕ). take m l ++ drop i (replicate n rules.free) ≡ fill n (take m l)) e (fill_parts n (take m l) (rw e h))
+
 -- ── The lesser of two ──
 
 pub lesser_first : (n m : ℕ) → n < m → n ≡ lesser n m
@@ -65,7 +77,23 @@ lesser_first n m h = rw (lt-ltb n m h) refl
 pub lesser_second : (n m : ℕ) → m ≤ n → m ≡ lesser n m
 lesser_second n m h = rw (le-ltb n m h) refl
 
+lesser_low : (n m : ℕ) → lesser n m ≤ n
+lesser_low n m = go (lt_or_ge n m)
+  where
+    go : (n < m) ⊎ (m ≤ n) → lesser n m ≤ n
+    go (inl h) = let e = lesser_first n m h in omega arith
+    go (inr h) = let e = lesser_second n m h in omega arith
+
 -- ── The table ──
+
+abbrev table_of : List Row → ℕ → SwapTable
+table_of rs n = record { rows = rs; count = n }
+
+-- the first m rows of the table, and free ones behind them
+pub resized_is : (n : ℕ) (t : SwapTable) (m : ℕ) (rs : List Row) → length t.rows ≡ room → n ≤ room → m ≡ lesser n t.count → rs ≡ take m t.rows → table_of (rs ++ drop m (replicate room rules.free)) n ≡ resized_to n t
+resized_is n t m rs long h e q =
+    let w = lesser_low n t.count in
+    ap (λ (z : List Row). table_of z n) (ap (λ (z : List Row). z ++ drop m (replicate room rules.free)) q ∙ fill_front room m t.rows (omega arith) (omega arith) ∙ ap (λ (i : ℕ). fill room (take i t.rows)) e)
 
 pub rows_fresh : rows_of fresh ≡ replicate frames rules.free
 rows_fresh = refl

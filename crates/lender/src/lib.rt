@@ -9,12 +9,12 @@ ghost use Rattle.lender.specs.Lender;
 ghost use Rattle.lender.specs.Lender.{room, served, resized_to, with_row_at};
 
 use lent::{Keeper, Kept};
-use pages::{Event, FRAMES, Row};
+use pages::{Event, FRAMES, FREE, Row};
 
 // As many rows as there is room for; a table of more or fewer than sixteen can be lent, and is refused.
 pub const ROOM: usize = 64;
 
-// The swap table as its owner keeps it: the first `count` of the rows.
+// The swap table as its owner keeps it: the first `count` of the rows. It is no Vec: no heap, fixed memory.
 #[derive(Clone, Copy)]
 pub struct SwapTable {
     pub rows: [Row; ROOM],
@@ -39,7 +39,7 @@ pub fn fresh() -> SwapTable
     ensures { result ≡ Lender.fresh }
 {
     SwapTable {
-        rows: [Row { owner: 0, page: 0 }; ROOM],
+        rows: [FREE; ROOM],
         count: FRAMES,
     }
 }
@@ -49,12 +49,9 @@ fn lend(rows: [Row; ROOM], n: usize, k: Keeper, v: Event) -> Lending
     requires { (n ≤ room) × Keeping k }
     ensures { (result.turn ≡ (lent v k (take n rows)).turn) × (result.rows ≡ (lent v k (take n rows)).rows ++ drop n rows) }
 {
-    let mut t = rows;
-    let turn = lent::event(&mut t[..n], k, v);
-    Lending {
-        turn: turn,
-        rows: t,
-    }
+    let mut rows = rows;
+    let turn = lent::event(&mut rows[..n], k, v);
+    Lending { turn, rows }
 }
 
 // One event over the table, lent.
@@ -62,27 +59,12 @@ pub fn event(t: SwapTable, k: Keeper, v: Event) -> Served
     requires { (t.count ≤ room) × Keeping k }
     ensures { (result ≡ served v k t) × Keeping result.turn.keeper }
 {
-    let rows = t.rows;
-    let n = t.count;
-    let done = lend(rows, n, k, v);
-    let turn = done.turn;
-    let after = done.rows;
+    let count = t.count;
+    let Lending { turn, rows } = lend(t.rows, count, k, v);
     Served {
-        turn: turn,
-        table: SwapTable {
-            rows: after,
-            count: n,
-        },
+        turn,
+        table: SwapTable { rows, count },
     }
-}
-
-fn lesser(n: usize, m: usize) -> usize
-    ensures { (result ≡ Lender.lesser n m) × (result ≤ n) }
-{
-    if n < m {
-        return n;
-    }
-    m
 }
 
 // The table at another length: rows behind it are gone, and new ones are free.
@@ -90,18 +72,10 @@ pub fn resized(t: SwapTable, n: usize) -> SwapTable
     requires { n ≤ room }
     ensures { result ≡ resized_to n t }
 {
-    let old = t.rows;
-    let kept = lesser(n, t.count);
-    let mut rows = [Row { owner: 0, page: 0 }; ROOM];
-    let mut i: usize = 0;
-    while i < kept {
-        rows[i] = old[i];
-        i = i + 1;
-    }
-    SwapTable {
-        rows: rows,
-        count: n,
-    }
+    let kept = n.min(t.count);
+    let mut rows = [FREE; ROOM];
+    rows[..kept].copy_from_slice(&t.rows[..kept]);
+    SwapTable { rows, count: n }
 }
 
 // One row set, where the table has it.
@@ -110,9 +84,8 @@ pub fn with_row(t: SwapTable, at: usize, row: Row) -> SwapTable
     ensures { result ≡ with_row_at at row t }
 {
     let mut next = t;
-    if at < next.count {
+    if at < t.count {
         next.rows[at] = row;
-        return next;
     }
     next
 }

@@ -5,15 +5,15 @@ use mathlib.Core.Path.{◌≡◌, refl, sym, ◌∙◌, ap}
 use mathlib.Core.Logic.{◌≢◌}
 use mathlib.Core.List.{List, [], ◌∷◌}
 use Prim.Native.Nat.{ℕ}
-use native.Mathlib.Omega.{arith}
 use lib.ListN.{length, replicate}
+use Rattle.pages.specs.declared.Refusal.TheVariants.{NoSuchUproc, AtOdds}
 use Rattle.pages.specs.declared.Row.{Row}
 use Rattle.pages.specs.declared.Event.{Event}
 use Rattle.pages.specs.declared.Event.TheVariants.{Refill, Fault, Report, End}
 use Rattle.pages.specs.declared.Answer.{Answer}
 use Rattle.pages.specs.declared.Pager.{Pager}
 use Rattle.pages.specs.declared.Turn.{Turn}
-use Rattle.pages.specs.Numbers.{frames, no_such_uproc, at_odds}
+use Rattle.pages.specs.Numbers.{frames}
 use Rattle.pages.specs.Rules as rules
 use Rattle.pages.specs.Rules.{is_uproc, of_uproc, closed, step, answers}
 use Rattle.pages.specs.Ruled.{Ruled}
@@ -21,19 +21,19 @@ use Rattle.pages.proofs.Ruled.{fresh_ruled, keeps}
 use Rattle.odds.specs.Odds.{agrees}
 use Rattle.lent.specs.declared.Keeper.{Keeper}
 use Rattle.lent.specs.declared.Kept.{Kept}
-use Rattle.lent.specs.Lent.{joined, without_rows, fresh, refusing, after, no_uproc, verdict_of, lent, lent_answers}
+use Rattle.lent.specs.Lent.{joined, without_rows, fresh, refusing, after, no_uproc, lent, lent_answers}
 use Rattle.lent.proofs.Laws.{verdict_9, verdict_long, verdict_agrees, verdict_odds, agreeing, rows_go, rows_stop}
 
 -- ── 9 ──
 
-nobody : (u : ℕ) (p : Pager) (x : Turn) → not (is_uproc u) ≡ true → of_uproc u p x ≡ rules.refusing no_such_uproc p
+nobody : (u : ℕ) (p : Pager) (x : Turn) → not (is_uproc u) ≡ true → of_uproc u p x ≡ rules.refusing NoSuchUproc p
 nobody u p x e = go (is_uproc u) e
   where
-    go : (b : Bool) → not b ≡ true → (if b then closed p.transfer p x else rules.refusing no_such_uproc p) ≡ rules.refusing no_such_uproc p
+    go : (b : Bool) → not b ≡ true → (if b then closed p.transfer p x else rules.refusing NoSuchUproc p) ≡ rules.refusing NoSuchUproc p
     go true e = absurd (false≢true e)
     go false e = refl
 
-pub nobody_steps : (v : Event) (p : Pager) → no_uproc v ≡ true → step v p ≡ rules.refusing no_such_uproc p
+pub nobody_steps : (v : Event) (p : Pager) → no_uproc v ≡ true → step v p ≡ rules.refusing NoSuchUproc p
 unfolding step
 nobody_steps (Refill u n) p e = nobody u p (rules.refill u n p) e
 nobody_steps (Fault u n c) p e = nobody u p (rules.fault u n c p) e
@@ -43,17 +43,14 @@ nobody_steps (End u) p e = nobody u p (rules.ends u p) e
 -- ── 12: "not sixteen rows long or at odds with the page tables is refused with 12, untouched, after 9 and before 11" ──
 
 module _ (v : Event) (k : Keeper) (rs : List Row) where
-  refused_with : (n : ℕ) → n ≡ verdict_of v k (length rs) rs → n ≢ 0 → lent v k rs ≡ record { turn = refusing n k; rows = rs }
-  refused_with n e ne = rw e (rows_stop v k rs (rw e at ne))
+  pub refused_9 : no_uproc v ≡ true → lent v k rs ≡ record { turn = refusing NoSuchUproc k; rows = rs }
+  refused_9 e = rows_stop v k rs NoSuchUproc (sym (verdict_9 v k (length rs) rs e))
 
-  pub refused_9 : no_uproc v ≡ true → lent v k rs ≡ record { turn = refusing no_such_uproc k; rows = rs }
-  refused_9 e = refused_with no_such_uproc (verdict_9 v k (length rs) rs e) (λ z. omega arith)
+  pub refused_long : no_uproc v ≡ false → length rs ≢ frames → lent v k rs ≡ record { turn = refusing AtOdds k; rows = rs }
+  refused_long e ne = rows_stop v k rs AtOdds (sym (verdict_long v k (length rs) rs e ne))
 
-  pub refused_long : no_uproc v ≡ false → length rs ≢ frames → lent v k rs ≡ record { turn = refusing at_odds k; rows = rs }
-  refused_long e ne = refused_with at_odds (verdict_long v k (length rs) rs e ne) (λ z. omega arith)
-
-  pub refused_odds : no_uproc v ≡ false → length rs ≡ frames → agrees k.tables rs k.transfer ≡ false → lent v k rs ≡ record { turn = refusing at_odds k; rows = rs }
-  refused_odds e l a = refused_with at_odds (verdict_odds v k (length rs) rs e l a) (λ z. omega arith)
+  pub refused_odds : no_uproc v ≡ false → length rs ≡ frames → agrees k.tables rs k.transfer ≡ false → lent v k rs ≡ record { turn = refusing AtOdds k; rows = rs }
+  refused_odds e l a = rows_stop v k rs AtOdds (sym (verdict_odds v k (length rs) rs e l a))
 
   -- ── The plain form ──
 

@@ -1,7 +1,10 @@
 -- "In its last form, after the plain one, the desk lends the swap table, one row a frame, to be read and changed where
 -- it lies; a lent table not sixteen rows long or at odds with the page tables is refused with 12, untouched, after 9
 -- and before 11."
-use Rattle.std.specs.Prelude.{Bool, false, not, ◌&&◌, ◌≡◌, List, [], ◌∷◌, ℕ, ◌≤◌, ◌<◌, eqb, length, if◌then◌else◌}
+use Rattle.std.specs.Prelude.{Bool, false, not, ◌&&◌, ◌≡◌, List, [], ◌∷◌, ℕ, ◌≤◌, ◌<◌, eqb, length, Option, Some, None, if◌then◌else◌}
+use Rattle.rules.specs.Words.{maybe}
+use Rattle.pages.specs.declared.Refusal.{Refusal}
+use Rattle.pages.specs.declared.Refusal.TheVariants.{NoSuchUproc, AtOdds}
 use Rattle.pages.specs.declared.Row.{Row}
 use Rattle.pages.specs.declared.Event.{Event}
 use Rattle.pages.specs.declared.Event.TheVariants.{Refill, Fault, Report, End}
@@ -12,7 +15,7 @@ use Rattle.pages.specs.declared.Word.TheVariants as word
 use Rattle.pages.specs.declared.Answer.{Answer}
 use Rattle.pages.specs.declared.Pager.{Pager}
 use Rattle.pages.specs.declared.Turn.{Turn}
-use Rattle.pages.specs.Numbers.{u_procs, width, frames, no_such_uproc, at_odds}
+use Rattle.pages.specs.Numbers.{u_procs, width, frames}
 use Rattle.pages.specs.Rules as rules
 use Rattle.pages.specs.Rules.{table, entry, is_uproc, step}
 use Rattle.pages.specs.Ruled.{Page, Left}
@@ -35,8 +38,8 @@ fresh = without_rows rules.fresh
 
 -- ── Answers ──
 
-abbrev pub refusing : ℕ → Keeper → Kept
-refusing n k = record { answer = record { refusal = n; word = word.None }; keeper = k }
+abbrev pub refusing : Refusal → Keeper → Kept
+refusing r k = record { answer = record { refusal = Some r; word = word.None }; keeper = k }
 
 -- the plain pager's answer
 abbrev pub after : Turn → Kept
@@ -51,12 +54,12 @@ no_uproc (Fault u n c) = not (is_uproc u)
 no_uproc (Report ok) = false
 no_uproc (End u) = not (is_uproc u)
 
--- n rows, rs: "not sixteen rows long or at odds with the page tables is refused with 12 .. after 9 and before 11". 0
+-- n rows, rs: "not sixteen rows long or at odds with the page tables is refused with 12 .. after 9 and before 11". None
 -- where neither applies
-abbrev pub verdict_of : Event → Keeper → ℕ → List Row → ℕ
+abbrev pub verdict_of : Event → Keeper → ℕ → List Row → Option Refusal
 verdict_of v k n rs =
-    if no_uproc v then no_such_uproc else
-    (if eqb n frames && agrees k.tables rs k.transfer then 0 else at_odds)
+    if no_uproc v then Some NoSuchUproc else
+    (if eqb n frames && agrees k.tables rs k.transfer then None else Some AtOdds)
 
 -- what an event makes of what is kept, and of the lent rows
 pub record Lent : Type 0 where
@@ -67,14 +70,14 @@ unfoldable pub lent : Event → Keeper → List Row → Lent
 lent v k rs =
     let n = verdict_of v k (length rs) rs in
     let t = step v (joined k rs) in
-    if eqb n 0 then record { turn = after t; rows = t.pager.rows } else record { turn = refusing n k; rows = rs }
+    maybe n (record { turn = after t; rows = t.pager.rows }) λ r. record { turn = refusing r k; rows = rs }
 
 -- the same of a sheet
 unfoldable pub decided : Event → Keeper → Sheet → Decided
 decided v k s =
     let n = verdict_of v k s.count s.rows in
     let t = step v (joined k s.rows) in
-    if eqb n 0 then record { turn = after t; sheet = record { rows = t.pager.rows; count = s.count } } else record { turn = refusing n k; sheet = s }
+    maybe n (record { turn = after t; sheet = record { rows = t.pager.rows; count = s.count } }) λ r. record { turn = refusing r k; sheet = s }
 
 -- ── The rule of what is kept: that of the pager, but for what it says of the rows ──
 

@@ -2,21 +2,19 @@
 // What it keeps of its own are the page tables, the hand and the open transfer. Public are `fresh` and `event`.
 #![tactic(auto)]
 
-ghost use Rattle.std.specs.Prelude.{not, ◌≡◌, ◌<◌};
-ghost use Rattle.pages.specs.Numbers.{frames};
-ghost use Rattle.pages.specs.Ruled.{Ruled};
-ghost use Rattle.pages.specs.Rules;
+ghost use Rattle.std.specs.Prelude.{◌≡◌};
 ghost use Rattle.lent.specs.Lent;
 ghost use Rattle.lent.specs.Lent.{Keeping, no_uproc, verdict_of, refusing, after, decided, lent};
 
 use odds::rows_and_tables_agree;
 use pages::{
-    AT_ODDS, Answer, ENTRIES, Event, FRAMES, NO_SUCH_UPROC, Pager, Row, Table, Transfer, Turn,
-    U_PROCS, Word,
+    Answer, BLANK, Event, FRAMES, Pager, Refusal, Row, Table, Transfer, Turn, U_PROCS, Word,
 };
+use paging::is_uproc;
 use swap::{Sheet, read_rows, write_rows};
 
-// What the pager keeps where the swap table is lent.
+// What the pager keeps where the swap table is lent. `Keeping` is a premise and no invariant of it, since `lent`
+// and its laws (`refused_9`, `refused_long`) are said of any keeper.
 #[derive(Clone, Copy)]
 pub struct Keeper {
     pub tables: [Table; U_PROCS],
@@ -37,55 +35,38 @@ pub struct Decided {
     pub sheet: Sheet,
 }
 
-// The number is none of the eight.
-fn is_nobody(u: u32) -> bool
-    ensures { result ≡ not (Rules.is_uproc u) }
-{
-    if u < 1 {
-        return true;
-    }
-    (U_PROCS as u32) < u
-}
-
 // The event names a U-proc that is none of the eight.
 fn names_nobody(v: Event) -> bool
     ensures { result ≡ no_uproc v }
 {
     match v {
-        Event::Refill(u, _) => is_nobody(u),
-        Event::Fault(u, _, _) => is_nobody(u),
+        Event::Refill(u, _) => !is_uproc(u),
+        Event::Fault(u, _, _) => !is_uproc(u),
         Event::Report(_) => false,
-        Event::End(u) => is_nobody(u),
+        Event::End(u) => !is_uproc(u),
     }
 }
 
-// "refused with 12, untouched, after 9 and before 11"; 0 where neither applies.
-fn verdict(k: Keeper, s: Sheet, v: Event) -> u8
+// "refused with 12, untouched, after 9 and before 11"
+fn verdict(k: Keeper, s: Sheet, v: Event) -> Option<Refusal>
     ensures { result ≡ verdict_of v k s.count s.rows }
 {
     if names_nobody(v) {
-        return NO_SUCH_UPROC;
+        return Some(Refusal::NoSuchUproc);
     }
-    let n = s.count;
-    if n != FRAMES {
-        return AT_ODDS;
+    if s.count == FRAMES && rows_and_tables_agree(k.tables, s.rows, k.transfer) {
+        return None;
     }
-    let tables = k.tables;
-    let rows = s.rows;
-    let t = k.transfer;
-    if rows_and_tables_agree(tables, rows, t) {
-        return 0;
-    }
-    AT_ODDS
+    Some(Refusal::AtOdds)
 }
 
-fn untouched(k: Keeper, s: Sheet, n: u8) -> Decided
-    ensures { result ≡ record { turn = refusing n k; sheet = s } }
+fn untouched(k: Keeper, s: Sheet, r: Refusal) -> Decided
+    ensures { result ≡ record { turn = refusing r k; sheet = s } }
 {
     Decided {
         turn: Kept {
             answer: Answer {
-                refusal: n,
+                refusal: Some(r),
                 word: Word::None,
             },
             keeper: k,
@@ -98,14 +79,17 @@ fn untouched(k: Keeper, s: Sheet, n: u8) -> Decided
 fn joined(k: Keeper, s: Sheet) -> Pager
     ensures { result ≡ Lent.joined k s.rows }
 {
-    let tables = k.tables;
+    let Keeper {
+        tables,
+        hand,
+        transfer,
+    } = k;
     let rows = s.rows;
-    let t = k.transfer;
     Pager {
-        tables: tables,
-        rows: rows,
-        hand: k.hand,
-        transfer: t,
+        tables,
+        rows,
+        hand,
+        transfer,
     }
 }
 
@@ -113,24 +97,22 @@ fn joined(k: Keeper, s: Sheet) -> Pager
 fn apart(turn: Turn, n: usize) -> Decided
     ensures { result ≡ record { turn = after turn; sheet = record { rows = turn.pager.rows; count = n } } }
 {
-    let p = turn.pager;
-    let tables = p.tables;
-    let rows = p.rows;
-    let t = p.transfer;
-    let answer = turn.answer;
+    let Pager {
+        tables,
+        rows,
+        hand,
+        transfer,
+    } = turn.pager;
     Decided {
         turn: Kept {
-            answer: answer,
+            answer: turn.answer,
             keeper: Keeper {
-                tables: tables,
-                hand: p.hand,
-                transfer: t,
+                tables,
+                hand,
+                transfer,
             },
         },
-        sheet: Sheet {
-            rows: rows,
-            count: n,
-        },
+        sheet: Sheet { rows, count: n },
     }
 }
 
@@ -139,13 +121,13 @@ pub fn decide(s: Sheet, k: Keeper, v: Event) -> Decided
     requires { Keeping k }
     ensures { result ≡ decided v k s }
 {
-    let n = verdict(k, s, v);
-    if n != 0 {
-        return untouched(k, s, n);
+    match verdict(k, s, v) {
+        Some(r) => untouched(k, s, r),
+        None => {
+            let p = joined(k, s);
+            apart(paging::event(p, v), s.count)
+        }
     }
-    let p = joined(k, s);
-    let turn = paging::event(p, v);
-    apart(turn, s.count)
 }
 
 // "free at first, the hand at 0"
@@ -153,9 +135,7 @@ pub fn fresh() -> Keeper
     ensures { result ≡ Lent.fresh }
 {
     Keeper {
-        tables: [Table {
-            entries: [0; ENTRIES],
-        }; U_PROCS],
+        tables: [BLANK; U_PROCS],
         hand: 0,
         transfer: Transfer::Closed,
     }

@@ -1,38 +1,76 @@
--- Laws of an answer's line: no line is longer than the longest; a number that is shown, or absent.
-use Rattle.std.specs.Prelude.{if◌then◌else◌}
+-- Laws of an answer's line: no line is longer than the longest, since its numbers are within their types.
+use Rattle.std.specs.Prelude.{Option, Some, None}
 use mathlib.Core.Path.{◌≡◌, refl, ap, ◌∙◌}
-use mathlib.Core.Bool.{Bool, true, false}
-use mathlib.Core.Logic.{◌≢◌}
 use mathlib.Core.List.{List, [], ◌∷◌}
-use Prim.Native.Nat.{ℕ, zero, suc, ◌+◌, ◌-◌, ◌^◌, ◌≤◌, ◌<◌}
+use Prim.Native.Nat.{ℕ, suc, ◌+◌, ◌^◌, ◌≤◌, ◌<◌}
 use native.Mathlib.Omega.{arith}
-use lib.Dec.{ltb}
 use lib.ListN.{length, length-append}
-use borrow.Author.Tests.{ltb-true, lt-ltb, le-ltb}
+use mir.Syntax.{w32}
+use mir.Val.{Val, Fits}
+use denote.Laws.{Is}
+use denote.Struct.Declared.{row}
 use Rattle.rules.specs.Words.{sum}
-use Rattle.report.specs.Text.{decimal, absent, joined}
+use Rattle.report.specs.Text.{decimal, joined}
 use Rattle.report.specs.Buffer.{longest}
 use Rattle.report.proofs.Decimal.{length_within}
+use Rattle.pages.specs.declared.Refusal.{Refusal}
+use Rattle.pages.specs.declared.Refusal.TheVariants.{NoSuchUproc, OutOfTurn, AtOdds}
 use Rattle.pages.specs.declared.Word.{Word}
 use Rattle.pages.specs.declared.Word.TheVariants as word
-use Rattle.pager_text.specs.Answers.{name, none, frame_in, shown, line_of}
+use Rattle.pages.specs.Numbers.{told_number}
+use Rattle.pager_text.specs.declared.Seen.{Seen}
+use Rattle.pager_text.specs.contracts.Seen.{the_type}
+use Rattle.pager_text.specs.Answers.{name, shown, parts, line_of}
 
-pub in_frame : (v : ℕ) → v ≢ 0 → v - 1 ≡ frame_in v
-in_frame zero ne = absurd (ne refl)
-in_frame (suc f) ne = omega arith
+abbrev InByte : Option ℕ → Type 0
+InByte None = Unit {0}
+InByte (Some n) = n < 2 ^ 8
 
-pub here : (n : ℕ) → n < none → shown n ≡ decimal n
-here n h = rw (lt-ltb n none h) refl
+record Ranged (n : ℕ) (s : Seen) : Type 0 where
+  number : n < 2 ^ 32
+  u : InByte s.u
+  entry : InByte s.entry
+  frame : InByte s.frame
+  frames : s.frames < 2 ^ 16
 
-pub away : (n : ℕ) → none ≤ n → shown n ≡ absent
-away n h = rw (le-ltb n none h) refl
+-- ── What the types say ──
 
-shown_length : (n : ℕ) → length (shown n) ≤ 3
-shown_length n = go (ltb n none) refl
-  where
-    go : (b : Bool) → ltb n none ≡ b → length (if b then decimal n else absent) ≤ 3
-    go true e = length_within n 2 (let h = ltb-true n none e in omega arith)
-    go false e = omega arith
+module _ (vs : List Val) (m : ℕ) where
+  abbrev Typed : Option ℕ → Option ℕ → Option ℕ → Type 0
+  Typed u e f = Is (row the_type) (record { u = u; entry = e; frame = f; frames = m }) vs
+
+  u_known : (u e f : Option ℕ) → Typed u e f → InByte u
+  u_known None e f h = tt
+  u_known (Some n) e f h = h.1.1.0.1.1.1.1.0.1
+
+  entry_known : (u e f : Option ℕ) → Typed u e f → InByte e
+  entry_known u None f h = tt
+  entry_known u (Some n) f h = h.1.1.1.0.1.1.1.1.0.1
+
+  frame_known : (u e f : Option ℕ) → Typed u e f → InByte f
+  frame_known u e None h = tt
+  frame_known u e (Some n) h = h.1.1.1.1.0.1.1.1.1.0.1
+
+known : (vs : List Val) (n : ℕ) (s : Seen) → Fits w32 n → Is (row the_type) s vs → Ranged n s
+known vs n s f h = record {
+  number = f.fits;
+  u = u_known vs s.frames s.u s.entry s.frame h;
+  entry = entry_known vs s.frames s.u s.entry s.frame h;
+  frame = frame_known vs s.frames s.u s.entry s.frame h;
+  frames = h.1.1.1.1.1.0.1;
+}
+
+-- ── How long the parts are ──
+
+refusal_length : (r : Option Refusal) → length (decimal (told_number r)) ≤ 3
+refusal_length None = length_within 0 2 (omega arith)
+refusal_length (Some NoSuchUproc) = length_within 9 2 (omega arith)
+refusal_length (Some OutOfTurn) = length_within 11 2 (omega arith)
+refusal_length (Some AtOdds) = length_within 12 2 (omega arith)
+
+shown_length : (o : Option ℕ) → InByte o → length (shown o) ≤ 3
+shown_length None h = omega arith
+shown_length (Some n) h = length_within n 2 (omega arith)
 
 name_length : (w : Word) → length (name w) ≤ 7
 name_length word.None = omega arith
@@ -48,13 +86,15 @@ joined_length : (ps : List (List ℕ)) → length (joined ps) ≡ sum (λ p. suc
 joined_length [] = refl
 joined_length (p ∷ ps) = ap suc (length-append p (joined ps)) ∙ omega (arith, joined_length ps)
 
-pub line_within : (n r : ℕ) (w : Word) (u e f m : ℕ) → n < 2 ^ 32 → r < 2 ^ 8 → m < 2 ^ 16 → length (line_of n r w u e f m) ≤ longest
-unfolding line_of
-line_within n r w u e f m a b c = rw (length-append (decimal n), joined_length)
-    (omega (arith, length_within n 9 (omega arith), length_within r 2 (omega arith), name_length w, shown_length u, shown_length e, shown_length f, length_within m 4 (omega arith)))
+module _ (vs : List Val) (n : ℕ) (r : Option Refusal) (w : Word) (s : Seen) (f : Fits w32 n) (h : Is (row the_type) s vs) where
+  pub within_known : length (line_of n r w s) ≤ longest
+  unfolding line_of
+  within_known =
+      let k = known vs n s f h in
+      rw (length-append (decimal n), joined_length)
+      (omega (arith, k.number, k.frames, length_within n 9 (omega arith), refusal_length r, name_length w, shown_length s.u k.u, shown_length s.entry k.entry, shown_length s.frame k.frame, length_within s.frames 4 (omega arith)))
 
--- the parts one by one: each has room behind those before it
-pub line_room : (n r : ℕ) (w : Word) (u e f m : ℕ) → n < 2 ^ 32 → r < 2 ^ 8 → m < 2 ^ 16
-    → length (decimal n) + suc (length (decimal r)) + suc (length (name w)) + suc (length (shown u)) + suc (length (shown e)) + suc (length (shown f)) + suc (length (decimal m)) + 1 ≤ longest
-line_room n r w u e f m a b c =
-    omega (arith, length_within n 9 (omega arith), length_within r 2 (omega arith), name_length w, shown_length u, shown_length e, shown_length f, length_within m 4 (omega arith))
+  -- the parts one by one: each has room behind those before it
+  pub room_known : length (decimal n) + (sum (λ p. suc (length p)) (parts r w s) + 1) ≤ longest
+  unfolding line_of
+  room_known = rw (length-append (decimal n), joined_length) at within_known

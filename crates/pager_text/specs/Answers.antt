@@ -1,9 +1,11 @@
 -- The line of an answer, in bytes: N REFUSAL WORD U ENTRY FRAME FRAMES.
-use Rattle.std.specs.Prelude.{List, [], ◌∷◌, ◌++◌, ℕ, zero, suc, ltb, if◌then◌else◌}
+use Rattle.std.specs.Prelude.{List, [], ◌∷◌, ◌++◌, ℕ, zero, suc, Option, Some, None}
 use Rattle.report.specs.Text.{decimal, absent, joined}
+use Rattle.pages.specs.declared.Refusal.{Refusal}
 use Rattle.pages.specs.declared.Word.{Word}
 use Rattle.pages.specs.declared.Word.TheVariants as word
 use Rattle.pages.specs.declared.Answer.{Answer}
+use Rattle.pages.specs.Numbers.{told_number}
 use Rattle.pager_text.specs.declared.Seen.{Seen}
 
 -- "none, entry, refresh, write, read, resume, trap, freed", in bytes
@@ -17,36 +19,33 @@ name (word.Resume u e f) = 114 ∷ 101 ∷ 115 ∷ 117 ∷ 109 ∷ 101 ∷ []
 name (word.Trap u) = 116 ∷ 114 ∷ 97 ∷ 112 ∷ []
 name (word.Freed u m) = 102 ∷ 114 ∷ 101 ∷ 101 ∷ 100 ∷ []
 
--- what stands for an absent number: U-procs, entries and frames are below it
-abbrev pub none : ℕ
-none = 256
-
 -- an entry as it stands: absent is 0, and f + 1 is frame f
-abbrev pub frame_in : ℕ → ℕ
-frame_in zero = none
-frame_in (suc f) = f
+abbrev pub frame_in : ℕ → Option ℕ
+frame_in zero = None
+frame_in (suc f) = Some f
 
 -- "U, ENTRY and FRAME are those of the page in question (for write the evicted one's owner and entry; for entry the
 -- frame is absent where the page is)"; "FRAMES is the mask of the frames freed, .. 0 where none"
 abbrev pub seen_of : Word → Seen
-seen_of word.None = record { u = none; entry = none; frame = none; frames = 0 }
-seen_of (word.Entry u e v) = record { u = u; entry = e; frame = frame_in v; frames = 0 }
-seen_of (word.Refresh u e f) = record { u = u; entry = e; frame = f; frames = 0 }
-seen_of (word.Write f o g) = record { u = o; entry = g; frame = f; frames = 0 }
-seen_of (word.Read f u e) = record { u = u; entry = e; frame = f; frames = 0 }
-seen_of (word.Resume u e f) = record { u = u; entry = e; frame = f; frames = 0 }
-seen_of (word.Trap u) = record { u = u; entry = none; frame = none; frames = 0 }
-seen_of (word.Freed u m) = record { u = u; entry = none; frame = none; frames = m }
+seen_of word.None = record { u = None; entry = None; frame = None; frames = 0 }
+seen_of (word.Entry u e v) = record { u = Some u; entry = Some e; frame = frame_in v; frames = 0 }
+seen_of (word.Refresh u e f) = record { u = Some u; entry = Some e; frame = Some f; frames = 0 }
+seen_of (word.Write f o g) = record { u = Some o; entry = Some g; frame = Some f; frames = 0 }
+seen_of (word.Read f u e) = record { u = Some u; entry = Some e; frame = Some f; frames = 0 }
+seen_of (word.Resume u e f) = record { u = Some u; entry = Some e; frame = Some f; frames = 0 }
+seen_of (word.Trap u) = record { u = Some u; entry = None; frame = None; frames = 0 }
+seen_of (word.Freed u m) = record { u = Some u; entry = None; frame = None; frames = m }
 
 -- ""-" where absent"
-abbrev pub shown : ℕ → List ℕ
-shown n = if ltb n none then decimal n else absent
+abbrev pub shown : Option ℕ → List ℕ
+shown None = absent
+shown (Some n) = decimal n
 
-abbrev pub parts : ℕ → Word → ℕ → ℕ → ℕ → ℕ → List (List ℕ)
-parts r w u e f m = decimal r ∷ name w ∷ shown u ∷ shown e ∷ shown f ∷ decimal m ∷ []
+abbrev pub parts : Option Refusal → Word → Seen → List (List ℕ)
+parts r w s = decimal (told_number r) ∷ name w ∷ shown s.u ∷ shown s.entry ∷ shown s.frame ∷ decimal s.frames ∷ []
 
-unfoldable pub line_of : ℕ → ℕ → Word → ℕ → ℕ → ℕ → ℕ → List ℕ
-line_of n r w u e f m = decimal n ++ joined (parts r w u e f m)
+unfoldable pub line_of : ℕ → Option Refusal → Word → Seen → List ℕ
+line_of n r w s = decimal n ++ joined (parts r w s)
 
 abbrev pub line : ℕ → Answer → List ℕ
-line n a = let s = seen_of a.word in line_of n a.refusal a.word s.u s.entry s.frame s.frames
+line n a = line_of n a.refusal a.word (seen_of a.word)

@@ -1,59 +1,54 @@
 // The pager's text form: a line of the program's input taken apart, and an answer as the line that is written.
 #![tactic(auto)]
 
-ghost use Rattle.std.specs.Prelude.{◌≡◌, ◌∷◌, [], ◌+◌, ◌≤◌, ◌<◌, length};
+ghost use Rattle.std.specs.Prelude.{Some, None, ◌≡◌, ◌∷◌, [], ◌+◌, ◌≤◌, ◌<◌, length};
 ghost use Rattle.report.specs.Text.{decimal, space};
 ghost use Rattle.report.specs.Buffer.{Puts, Writes};
 ghost use Rattle.pager_text.specs.Answers;
+ghost use Rattle.pages.specs.Numbers.{told_number};
 ghost use Rattle.pager_text.specs.Answers.{name, shown, seen_of, line_of, line};
 
-use pages::{Answer, Word};
-use report::{Written, add_number, put_byte, put_bytes, put_decimal};
+use pages::{Answer, Refusal, Word};
+use report::{add_number, put_byte, put_bytes, put_decimal};
 
 // As many bytes as the longest line has: that of `report`.
 const LONGEST: usize = report::LONGEST;
 
-// What is written for a number that is absent: any number from here on.
-const ABSENT: u16 = 256;
-
 // The parts of an answer behind its word.
 #[derive(Clone, Copy)]
 pub struct Seen {
-    pub u: u16,
-    pub entry: u16,
-    pub frame: u16,
+    pub u: Option<u8>,
+    pub entry: Option<u8>,
+    pub frame: Option<u8>,
     pub frames: u16,
 }
 
 // The frame of an entry as it stands.
-fn frame_in(v: u8) -> u16
+fn frame_in(v: u8) -> Option<u8>
     ensures { result ≡ Answers.frame_in v }
 {
-    if v == 0 {
-        return ABSENT;
-    }
-    v as u16 - 1
+    v.checked_sub(1)
 }
 
-fn page(u: u8, e: u8, f: u16) -> Seen
-    ensures { result ≡ record { u = u; entry = e; frame = f; frames = 0 } }
+fn page(u: u8, e: u8, f: Option<u8>) -> Seen
+    ensures { result ≡ record { u = Some u; entry = Some e; frame = f; frames = 0 } }
 {
     Seen {
-        u: u as u16,
-        entry: e as u16,
+        u: Some(u),
+        entry: Some(e),
         frame: f,
         frames: 0,
     }
 }
 
-fn nothing(u: u16, frames: u16) -> Seen
-    ensures { result ≡ record { u = u; entry = 256; frame = 256; frames = frames } }
+fn nothing(u: Option<u8>, frames: u16) -> Seen
+    ensures { result ≡ record { u = u; entry = None; frame = None; frames = frames } }
 {
     Seen {
-        u: u,
-        entry: ABSENT,
-        frame: ABSENT,
-        frames: frames,
+        u,
+        entry: None,
+        frame: None,
+        frames,
     }
 }
 
@@ -62,14 +57,25 @@ fn parts_of(w: Word) -> Seen
     ensures { result ≡ seen_of w }
 {
     match w {
-        Word::None => nothing(ABSENT, 0),
+        Word::None => nothing(None, 0),
         Word::Entry(u, e, v) => page(u, e, frame_in(v)),
-        Word::Refresh(u, e, f) => page(u, e, f as u16),
-        Word::Write(f, o, g) => page(o, g, f as u16),
-        Word::Read(f, u, e) => page(u, e, f as u16),
-        Word::Resume(u, e, f) => page(u, e, f as u16),
-        Word::Trap(u) => nothing(u as u16, 0),
-        Word::Freed(u, m) => nothing(u as u16, m),
+        Word::Refresh(u, e, f) => page(u, e, Some(f)),
+        Word::Write(f, o, g) => page(o, g, Some(f)),
+        Word::Read(f, u, e) => page(u, e, Some(f)),
+        Word::Resume(u, e, f) => page(u, e, Some(f)),
+        Word::Trap(u) => nothing(Some(u), 0),
+        Word::Freed(u, m) => nothing(Some(u), m),
+    }
+}
+
+// "refusal or 0"
+fn add_refusal(out: &mut [u8], at: usize, refusal: Option<Refusal>) -> usize
+    requires { at + length (space ∷ decimal (told_number refusal)) ≤ length out.old }
+    ensures { Puts (space ∷ decimal (told_number refusal)) out.old at out.new result }
+{
+    match refusal {
+        None => add_number(out, at, 0),
+        Some(refusal) => add_number(out, at, refusal.number() as u64),
     }
 }
 
@@ -99,57 +105,49 @@ fn add_name(out: &mut [u8], at: usize, w: Word) -> usize
 }
 
 // A number, or "-" where it is absent.
-fn add_shown(out: &mut [u8], at: usize, n: u16) -> usize
+fn add_shown(out: &mut [u8], at: usize, n: Option<u8>) -> usize
     requires { at + length (space ∷ shown n) ≤ length out.old }
     ensures { Puts (space ∷ shown n) out.old at out.new result }
 {
-    if n < ABSENT {
-        return add_number(out, at, n as u64);
+    match n {
+        Some(n) => add_number(out, at, n as u64),
+        None => put_bytes(out, at, b" -"),
     }
-    put_bytes(out, at, b" -")
 }
 
 // The line of a word and what is seen of it.
 fn write_parts(
     out: &mut [u8],
     number: u32,
-    refusal: u8,
+    refusal: Option<Refusal>,
     w: Word,
-    u: u16,
-    entry: u16,
-    frame: u16,
-    frames: u16,
-) -> Written
-    ensures { Writes (line_of number refusal w u entry frame frames) out.old out.new result }
+    seen: Seen,
+) -> Option<usize>
+    ensures { Writes (line_of number refusal w seen) out.old out.new result }
 {
     if out.len() < LONGEST {
-        return Written::NoRoom;
+        return None;
     }
     let mut at = put_decimal(out, 0, number as u64);
-    at = add_number(out, at, refusal as u64);
+    at = add_refusal(out, at, refusal);
     at = add_name(out, at, w);
-    at = add_shown(out, at, u);
-    at = add_shown(out, at, entry);
-    at = add_shown(out, at, frame);
-    at = add_number(out, at, frames as u64);
+    at = add_shown(out, at, seen.u);
+    at = add_shown(out, at, seen.entry);
+    at = add_shown(out, at, seen.frame);
+    at = add_number(out, at, seen.frames as u64);
     at = put_byte(out, at, b'\n');
-    Written::Bytes(at)
+    Some(at)
 }
 
 // "N REFUSAL WORD U ENTRY FRAME FRAMES"
-pub fn write_answer(out: &mut [u8], number: u32, answer: Answer) -> Written
+pub fn write_answer(out: &mut [u8], number: u32, answer: Answer) -> Option<usize>
     ensures { Writes (line number answer) out.old out.new result }
 {
-    let w = answer.word;
-    let s = parts_of(w);
     write_parts(
         out,
         number,
         answer.refusal,
-        w,
-        s.u,
-        s.entry,
-        s.frame,
-        s.frames,
+        answer.word,
+        parts_of(answer.word),
     )
 }

@@ -9,9 +9,9 @@ use lib.Dec.{eqb, leb}
 use borrow.Author.Tests.{leb-true}
 use Rattle.rules.specs.Words.{first}
 use Rattle.rules.proofs.Cases.{if_cases, and_left, and_right}
+use Rattle.pages.specs.declared.Refusal.TheVariants.{NoSuchUproc, OutOfTurn}
 use Rattle.pages.specs.declared.Row.{Row}
-use Rattle.pages.specs.declared.Found.{Found}
-use Rattle.pages.specs.declared.Found.TheVariants.{At, Nothing}
+use Rattle.std.specs.Prelude.{Option, Some, None}
 use Rattle.pages.specs.declared.Cause.{Cause}
 use Rattle.pages.specs.declared.Cause.TheVariants.{Load, Store, Modification}
 use Rattle.pages.specs.declared.Event.{Event}
@@ -21,8 +21,8 @@ use Rattle.pages.specs.declared.Transfer.TheVariants.{Closed, Writing, Reading}
 use Rattle.pages.specs.declared.Word.TheVariants as word
 use Rattle.pages.specs.declared.Pager.{Pager}
 use Rattle.pages.specs.declared.Turn.{Turn}
-use Rattle.pages.specs.Numbers.{u_procs, width, first_page, last_page, stack_page, stack_entry, no_such_uproc, out_of_turn}
-use Rattle.pages.specs.Rules.{entry, lowest_free, entry_of, is_uproc, refusing, saying, trap, refill, reads, evicts, takes, wants, by_cause, fault, written, read, ends, closed, report, of_uproc, step}
+use Rattle.pages.specs.Numbers.{u_procs, width, first_page, last_page, stack_page, stack_entry}
+use Rattle.pages.specs.Rules.{entry, lowest_free, entry_of, is_uproc, refusing, saying, trap, refill, reads, evicts, takes, wants, fault, written, read, ends, closed, report, of_uproc, step}
 use Rattle.pages.specs.Ruled.{Page}
 
 -- the entry of a page number is within the table
@@ -41,13 +41,13 @@ is_access (Report ok) = false
 is_access (End u) = false
 
 pub data Happens (p : Pager) : Event → Turn → Type 0 where
-  no_uproc : (v : Event) → Happens p v (refusing no_such_uproc p)
-  no_turn : (v : Event) → Happens p v (refusing out_of_turn p)
+  no_uproc : (v : Event) → Happens p v (refusing NoSuchUproc p)
+  no_turn : (v : Event) → Happens p v (refusing OutOfTurn p)
   tells : (v : Event) (u e x : ℕ) → is_access v ≡ true → p.transfer ≡ Closed → Happens p v (saying (word.Entry u e x) p)
   refreshes : (v : Event) (u e f : ℕ) → is_access v ≡ true → p.transfer ≡ Closed → Happens p v (saying (word.Refresh u e f) p)
   traps : (v : Event) (u : ℕ) → is_access v ≡ true → p.transfer ≡ Closed → Happens p v (trap u p)
-  takes_free : (v : Event) (f u e : ℕ) → is_access v ≡ true → p.transfer ≡ Closed → Page u e → entry p.tables u e ≡ 0 → lowest_free p.rows ≡ At f → Happens p v (reads f u e p)
-  takes_hand : (v : Event) (u e : ℕ) → is_access v ≡ true → p.transfer ≡ Closed → Page u e → entry p.tables u e ≡ 0 → lowest_free p.rows ≡ Nothing → Happens p v (evicts u e p)
+  takes_free : (v : Event) (f u e : ℕ) → is_access v ≡ true → p.transfer ≡ Closed → Page u e → entry p.tables u e ≡ 0 → lowest_free p.rows ≡ Some f → Happens p v (reads f u e p)
+  takes_hand : (v : Event) (u e : ℕ) → is_access v ≡ true → p.transfer ≡ Closed → Page u e → entry p.tables u e ≡ 0 → lowest_free p.rows ≡ None → Happens p v (evicts u e p)
   write_done : (f u e : ℕ) (old : Row) → p.transfer ≡ Writing f u e old → Happens p (Report true) (written true f u e old p)
   write_fails : (f u e : ℕ) (old : Row) → p.transfer ≡ Writing f u e old → Happens p (Report false) (written false f u e old p)
   read_done : (f u e : ℕ) → p.transfer ≡ Reading f u e → Happens p (Report true) (read true f u e p)
@@ -56,9 +56,9 @@ pub data Happens (p : Pager) : Event → Turn → Type 0 where
 
 module _ (p : Pager) where
   -- a page that is wanted
-  by_frame : (v : Event) → is_access v ≡ true → (found : Found) → lowest_free p.rows ≡ found → (u e : ℕ) → p.transfer ≡ Closed → Page u e → entry p.tables u e ≡ 0 → Happens p v (takes found u e p)
-  by_frame v i (At f) q u e c page away = takes_free v f u e i c page away q
-  by_frame v i Nothing q u e c page away = takes_hand v u e i c page away q
+  by_frame : (v : Event) → is_access v ≡ true → (found : Option ℕ) → lowest_free p.rows ≡ found → (u e : ℕ) → p.transfer ≡ Closed → Page u e → entry p.tables u e ≡ 0 → Happens p v (takes found u e p)
+  by_frame v i (Some f) q u e c page away = takes_free v f u e i c page away q
+  by_frame v i None q u e c page away = takes_hand v u e i c page away q
 
   by_entry : (v : Event) → is_access v ≡ true → (x u e : ℕ) → entry p.tables u e ≡ x → p.transfer ≡ Closed → Page u e → Happens p v (wants x u e p)
   by_entry v i zero u e q c page = by_frame v i (lowest_free p.rows) refl u e c page q

@@ -4,16 +4,16 @@ use mathlib.Core.Bool.{Bool, true, false}
 use mathlib.Core.Path.{◌≡◌, refl, sym, ◌∙◌, ap, subst}
 use mathlib.Core.Logic.{◌≢◌, ◌⊎◌, inl, inr}
 use mathlib.Core.List.{List, map}
-use Prim.Native.Nat.{ℕ, zero, suc, ◌-◌, ◌≤◌, ◌<◌}
+use Prim.Native.Nat.{ℕ, suc, ◌-◌, ◌≤◌, ◌<◌}
 use native.Mathlib.Omega.{arith}
 use lib.Dec.{T, eqb, eqb→eq}
-use lib.ListN.{length, get_or, set, replicate, length-set, length-map, get_or-replicate, get_or-map}
+use lib.ListN.{length, get_or, set, length-set, length-map, get_or-replicate, get_or-map}
 use lib.Seq.{get_or-set_same, get_or-set_other}
 use borrow.Author.Tests.{eq-eqb, ne_eqb}
 use Rattle.pages.specs.declared.Row.{Row}
 use Rattle.pages.specs.declared.Table.{Table}
 use Rattle.pages.specs.Numbers.{u_procs, width, frames}
-use Rattle.pages.specs.Rules.{free, blank, no_table, table, entry, mark, row, held, is_of, freed}
+use Rattle.pages.specs.Rules.{free, blank, no_table, table, entry, mark, row, held, freed}
 use Rattle.pages.specs.Ruled.{Page, Seated, Matches}
 
 -- ---- tests on numbers

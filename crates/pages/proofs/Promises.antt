@@ -1,7 +1,7 @@
 -- The laws of specs/Laws, of any pager that obeys the rule and so after any events from a fresh one.
-use Rattle.std.specs.Prelude.{if◌then◌else◌}
+use Rattle.std.specs.Prelude.{Some, None, if◌then◌else◌}
 use mathlib.Core.Bool.{Bool, true, false, not, ◌&&◌, ◌||◌, false≢true}
-use mathlib.Core.Path.{◌≡◌, refl, sym, ◌∙◌, ap, subst}
+use mathlib.Core.Path.{◌≡◌, refl, sym, ◌∙◌, ap}
 use mathlib.Core.Logic.{◌≢◌, ◌⊎◌, inl, inr}
 use mathlib.Core.List.{List, [], ◌∷◌}
 use Prim.Native.Nat.{ℕ, zero, suc, ◌+◌, ◌-◌, ◌≤◌, ◌<◌}
@@ -9,10 +9,10 @@ use native.Mathlib.Omega.{arith}
 use lib.Dec.{T, eqb, eqb→eq}
 use lib.ListN.{length, get_or, get_or-replicate}
 use borrow.Author.Tests.{eq-eqb, ne_eqb}
-use Rattle.rules.specs.Words.{among, count}
+use Rattle.rules.specs.Words.{among}
+use Rattle.pages.specs.declared.Refusal.{Refusal}
+use Rattle.pages.specs.declared.Refusal.TheVariants.{NoSuchUproc, OutOfTurn}
 use Rattle.pages.specs.declared.Row.{Row}
-use Rattle.pages.specs.declared.Found.{Found}
-use Rattle.pages.specs.declared.Found.TheVariants.{At, Nothing}
 use Rattle.pages.specs.declared.Event.{Event}
 use Rattle.pages.specs.declared.Event.TheVariants.{Refill, Fault, Report, End}
 use Rattle.pages.specs.declared.Table.{Table}
@@ -22,10 +22,10 @@ use Rattle.pages.specs.declared.Word.{Word}
 use Rattle.pages.specs.declared.Word.TheVariants as word
 use Rattle.pages.specs.declared.Pager.{Pager}
 use Rattle.pages.specs.declared.Turn.{Turn}
-use Rattle.pages.specs.Numbers.{u_procs, width, frames, no_such_uproc, out_of_turn}
-use Rattle.pages.specs.Rules.{free, blank, table, entry, mark, row, held, is_free, first_frame, lowest_free, fresh, refusing, reads, evicts, freed, ends, step, run}
-use Rattle.pages.specs.Ruled.{Page, Seated, Matches, Waits, Open, Ruled}
-use Rattle.pages.specs.Laws.{how_many, in_transfer, is_idle, is_owned, Conserved, OneOwner, is_report, Untouched, AbsentFirst, PresentLast, LowestFirst, is_write, HandMoves, LeavesNothing, Unasked, Laws, Promises}
+use Rattle.pages.specs.Numbers.{u_procs, width, frames}
+use Rattle.pages.specs.Rules.{table, entry, mark, row, held, is_free, first_frame, lowest_free, fresh, refusing, freed, ends, step, run}
+use Rattle.pages.specs.Ruled.{Page, Waits, Open, Ruled}
+use Rattle.pages.specs.Laws.{how_many, in_transfer, is_idle, is_owned, Conserved, OneOwner, is_report, Untouched, AbsentFirst, PresentLast, is_write, HandMoves, LeavesNothing, Unasked, Laws, Promises}
 use Rattle.pages.proofs.Happens.{is_access, Happens, no_uproc, no_turn, tells, refreshes, traps, takes_free, takes_hand, write_done, write_fails, read_done, read_fails, ending, happens}
 use Rattle.pages.proofs.Matches.{decide, zero_suc, mark_same, mark_at, freed_row, ended_table, kept_table}
 use Rattle.pages.proofs.Ruled.{owned, found_free, none_free, at_hand, always}
@@ -149,7 +149,7 @@ unfolding is_read
 no_read w f u e n q = absurd (false≢true (sym n ∙ ap is_read q))
 
 module _ (p : Pager) (r : Ruled p) where
-  hand_absent : lowest_free p.rows ≡ Nothing → let old = row p.rows p.hand in entry (mark p.tables old.owner old.page 0) old.owner old.page ≡ 0
+  hand_absent : lowest_free p.rows ≡ None → let old = row p.rows p.hand in entry (mark p.tables old.owner old.page 0) old.owner old.page ≡ 0
   hand_absent full =
       let s = at_hand p r full in
       let old = row p.rows p.hand in
@@ -180,24 +180,24 @@ no_end (Fault u n c) t i = tt
 no_end (Report ok) t i = tt
 no_end (End u) t i = absurd (false≢true i)
 
-refused_ends : (p : Pager) (v : Event) (n : ℕ) → n ≢ 0 → LeavesNothing v (refusing n p)
-refused_ends p (Refill u m) n ne = tt
-refused_ends p (Fault u m c) n ne = tt
-refused_ends p (Report ok) n ne = tt
-refused_ends p (End u) n ne = λ e. absurd (ne e)
+refused_ends : (p : Pager) (v : Event) (r : Refusal) → LeavesNothing v (refusing r p)
+refused_ends p (Refill u m) r = tt
+refused_ends p (Fault u m c) r = tt
+refused_ends p (Report ok) r = tt
+refused_ends p (End u) r = λ e. absurd (let z : ◌≡◌ {A = ℕ} 0 1 = cc in omega arith)
 
 -- frames before the first free one are owned
-lower : (rs : List Row) (k f : ℕ) → first_frame is_free k rs ≡ At f → (g : ℕ) → k + g < f → 1 ≤ (row rs g).owner
+lower : (rs : List Row) (k f : ℕ) → first_frame is_free k rs ≡ Some f → (g : ℕ) → k + g < f → 1 ≤ (row rs g).owner
 lower [] k f e g h = let z : ◌≡◌ {A = ℕ} 0 1 = cc in absurd (omega arith)
 lower (r ∷ rs) k f e g h = go (is_free r) refl (lower rs (suc k) f) e g h
   where
-    go : (b : Bool) → is_free r ≡ b → (first_frame is_free (suc k) rs ≡ At f → (g : ℕ) → suc k + g < f → 1 ≤ (row rs g).owner) → (if b then At k else first_frame is_free (suc k) rs) ≡ At f → (g : ℕ) → k + g < f → 1 ≤ (row (r ∷ rs) g).owner
+    go : (b : Bool) → is_free r ≡ b → (first_frame is_free (suc k) rs ≡ Some f → (g : ℕ) → suc k + g < f → 1 ≤ (row rs g).owner) → (if b then Some k else first_frame is_free (suc k) rs) ≡ Some f → (g : ℕ) → k + g < f → 1 ≤ (row (r ∷ rs) g).owner
     go true q i e g h = let z : k ≡ f = cc in absurd (omega arith)
     go false q i e zero h = owned r.owner q
     go false q i e (suc g) h = i e g (omega arith)
 
 module _ (p : Pager) (r : Ruled p) where
-  free_first : (f : ℕ) → lowest_free p.rows ≡ At f → ((row p.rows f).owner ≡ 0) × ((g : ℕ) → g < f → 1 ≤ (row p.rows g).owner)
+  free_first : (f : ℕ) → lowest_free p.rows ≡ Some f → ((row p.rows f).owner ≡ 0) × ((g : ℕ) → g < f → 1 ≤ (row p.rows g).owner)
   free_first f found = (let y : f - 0 ≡ f = omega arith in rw y at (found_free p.rows 0 f found).2, λ g h. lower p.rows 0 f found g (omega arith))
 
   taken_by : {v : Event} {t : Turn} → Happens p v t → (f u e : ℕ) → is_report v ≡ false → t.answer.word ≡ word.Read f u e → ((row p.rows f).owner ≡ 0) × ((g : ℕ) → g < f → 1 ≤ (row p.rows g).owner)
@@ -215,7 +215,7 @@ module _ (p : Pager) (r : Ruled p) where
   taken_by (read_fails x u' e' c) f u e n q = absurd (false≢true (sym n))
   taken_by (ending u' c a b) f u e n q = no_read (word.Freed u' _) f u e refl q
 
-  full_pool : lowest_free p.rows ≡ Nothing → (h : ℕ) → h < frames → 1 ≤ (row p.rows h).owner
+  full_pool : lowest_free p.rows ≡ None → (h : ℕ) → h < frames → 1 ≤ (row p.rows h).owner
   full_pool full h l = none_free p.rows 0 full h (rw r.matches.sixteen l)
 
   evicted_by : {v : Event} {t : Turn} → Happens p v t → (f o g : ℕ) → t.answer.word ≡ word.Write f o g → (f ≡ p.hand) × ((h : ℕ) → h < frames → 1 ≤ (row p.rows h).owner)
@@ -297,8 +297,8 @@ module _ (p : Pager) (r : Ruled p) where
           go (inr z) e = z (let y : (freed u x).owner ≡ x.owner = rw (ne_eqb x.owner u z) refl in sym y ∙ e)
 
   leaves_by : {v : Event} {t : Turn} → Happens p v t → LeavesNothing v t
-  leaves_by (no_uproc v) = refused_ends p v no_such_uproc (omega arith)
-  leaves_by (no_turn v) = refused_ends p v out_of_turn (omega arith)
+  leaves_by (no_uproc v) = refused_ends p v NoSuchUproc
+  leaves_by (no_turn v) = refused_ends p v OutOfTurn
   leaves_by (tells v u e x i q) = no_end v _ i
   leaves_by (refreshes v u e f i q) = no_end v _ i
   leaves_by (traps v u i q) = no_end v _ i

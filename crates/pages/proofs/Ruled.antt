@@ -1,32 +1,25 @@
 -- A fresh pager obeys the rule, and every event keeps it.
-use Rattle.std.specs.Prelude.{if◌then◌else◌}
-use mathlib.Core.Bool.{Bool, true, false, ◌&&◌}
+use Rattle.std.specs.Prelude.{Some, None, if◌then◌else◌}
+use mathlib.Core.Bool.{Bool, true, false}
 use mathlib.Core.Path.{◌≡◌, refl, sym, ◌∙◌, ap, subst}
 use mathlib.Core.Logic.{◌⊎◌, inl, inr}
 use mathlib.Core.List.{List, [], ◌∷◌}
 use Prim.Native.Nat.{ℕ, zero, suc, ◌+◌, ◌-◌, ◌≤◌, ◌<◌}
 use native.Mathlib.Omega.{arith}
 use native.Mathlib.Nat.{mod-lt}
-use lib.Dec.{T, eqb, leb, eqb→eq, leb→le}
-use lib.ListN.{length, get_or, set, get_or-replicate}
+use lib.Dec.{T, eqb, eqb→eq}
+use lib.ListN.{length, get_or, get_or-replicate}
 use lib.Seq.{get_or-set_same}
 use borrow.Author.Tests.{eq-eqb}
-use Rattle.rules.specs.Words.{first}
 use Rattle.pages.specs.declared.Row.{Row}
-use Rattle.pages.specs.declared.Found.{Found}
-use Rattle.pages.specs.declared.Found.TheVariants.{At, Nothing}
-use Rattle.pages.specs.declared.Cause.{Cause}
-use Rattle.pages.specs.declared.Cause.TheVariants.{Load, Store, Modification}
 use Rattle.pages.specs.declared.Event.{Event}
-use Rattle.pages.specs.declared.Event.TheVariants.{Refill, Fault, Report, End}
 use Rattle.pages.specs.declared.Table.{Table}
-use Rattle.pages.specs.declared.Transfer.{Transfer}
-use Rattle.pages.specs.declared.Transfer.TheVariants.{Closed, Writing, Reading}
+use Rattle.pages.specs.declared.Transfer.TheVariants.{Closed}
 use Rattle.pages.specs.declared.Pager.{Pager}
 use Rattle.pages.specs.declared.Turn.{Turn}
 use Rattle.pages.specs.Numbers.{u_procs, width, frames}
-use Rattle.pages.specs.Rules.{free, blank, no_table, table, entry, mark, row, is_free, first_frame, lowest_free, fresh, entry_of, is_uproc, refill, reads, evicts, takes, wants, fault, closes, seats, written, read, ends, closed, report, of_uproc, step, run}
-use Rattle.pages.specs.Ruled.{Page, Seated, Matches, Waits, Left, Open, Ruled}
+use Rattle.pages.specs.Rules.{free, blank, no_table, table, entry, mark, row, is_free, first_frame, lowest_free, fresh, reads, evicts, closes, seats, ends, step, run}
+use Rattle.pages.specs.Ruled.{Page, Seated, Matches, Waits, Ruled}
 use Rattle.pages.proofs.Matches.{zero_suc, zero_one, mark_same, mark_at, seat, unseat, ended}
 use Rattle.pages.proofs.Happens.{Happens, no_uproc, no_turn, tells, refreshes, traps, takes_free, takes_hand, write_done, write_fails, read_done, read_fails, ending, happens}
 
@@ -51,11 +44,11 @@ fresh_ruled = record {
 }
 
 -- ---- the lowest free frame
-pub found_free : (rs : List Row) (k f : ℕ) → first_frame is_free k rs ≡ At f → (k ≤ f) × (f - k < length rs) × ((row rs (f - k)).owner ≡ 0)
+pub found_free : (rs : List Row) (k f : ℕ) → first_frame is_free k rs ≡ Some f → (k ≤ f) × (f - k < length rs) × ((row rs (f - k)).owner ≡ 0)
 found_free [] k f e = let z : ◌≡◌ {A = ℕ} 0 1 = cc in absurd (omega arith)
 found_free (r ∷ rs) k f e = go (is_free r) refl (found_free rs (suc k) f) e
   where
-    go : (b : Bool) → is_free r ≡ b → (first_frame is_free (suc k) rs ≡ At f → (suc k ≤ f) × (f - suc k < length rs) × ((row rs (f - suc k)).owner ≡ 0)) → (if b then At k else first_frame is_free (suc k) rs) ≡ At f
+    go : (b : Bool) → is_free r ≡ b → (first_frame is_free (suc k) rs ≡ Some f → (suc k ≤ f) × (f - suc k < length rs) × ((row rs (f - suc k)).owner ≡ 0)) → (if b then Some k else first_frame is_free (suc k) rs) ≡ Some f
         → (k ≤ f) × (f - k < length (r ∷ rs)) × ((row (r ∷ rs) (f - k)).owner ≡ 0)
     go true q h e = let z : k ≡ f = cc in let y : f - k ≡ 0 = omega arith in (omega arith, omega arith, rw y (eqb→eq r.owner 0 (subst T (sym q) tt)))
     go false q h e = let i = h e in let y : f - k ≡ suc (f - suc k) = let a = i.0 in omega arith in (let a = i.0 in omega arith, let a = i.1 in omega arith, rw y i.2)
@@ -64,21 +57,21 @@ pub owned : (n : ℕ) → eqb n 0 ≡ false → 1 ≤ n
 owned zero q = absurd (subst T (sym (eq-eqb 0 0 refl) ∙ q) tt)
 owned (suc n) q = omega arith
 
-pub none_free : (rs : List Row) (k : ℕ) → first_frame is_free k rs ≡ Nothing → (i : ℕ) → i < length rs → 1 ≤ (row rs i).owner
+pub none_free : (rs : List Row) (k : ℕ) → first_frame is_free k rs ≡ None → (i : ℕ) → i < length rs → 1 ≤ (row rs i).owner
 none_free [] k e i h = absurd (omega arith)
 none_free (r ∷ rs) k e i h = go (is_free r) refl (none_free rs (suc k)) e i h
   where
-    go : (b : Bool) → is_free r ≡ b → (first_frame is_free (suc k) rs ≡ Nothing → (i : ℕ) → i < length rs → 1 ≤ (row rs i).owner) → (if b then At k else first_frame is_free (suc k) rs) ≡ Nothing → (i : ℕ) → i < length (r ∷ rs) → 1 ≤ (row (r ∷ rs) i).owner
+    go : (b : Bool) → is_free r ≡ b → (first_frame is_free (suc k) rs ≡ None → (i : ℕ) → i < length rs → 1 ≤ (row rs i).owner) → (if b then Some k else first_frame is_free (suc k) rs) ≡ None → (i : ℕ) → i < length (r ∷ rs) → 1 ≤ (row (r ∷ rs) i).owner
     go true q h e i l = let z : ◌≡◌ {A = ℕ} 0 1 = cc in absurd (omega arith)
     go false q h e zero l = owned r.owner q
     go false q h e (suc i) l = h e i (omega arith)
 
 -- a free frame is in the pool
-pub free_within : (p : Pager) → Ruled p → (f : ℕ) → lowest_free p.rows ≡ At f → f < frames
+pub free_within : (p : Pager) → Ruled p → (f : ℕ) → lowest_free p.rows ≡ Some f → f < frames
 free_within p r f q = let k = found_free p.rows 0 f q in let a = k.1 in let l = r.matches.sixteen in omega arith
 
 -- with no free frame, the row at the hand is that of a page
-pub at_hand : (p : Pager) → Ruled p → lowest_free p.rows ≡ Nothing → Seated p.tables p.hand (row p.rows p.hand)
+pub at_hand : (p : Pager) → Ruled p → lowest_free p.rows ≡ None → Seated p.tables p.hand (row p.rows p.hand)
 at_hand p r full = r.matches.named p.hand r.hand (none_free p.rows 0 full p.hand (rw r.matches.sixteen r.hand))
 
 -- ---- each event
@@ -93,7 +86,7 @@ module _ (p : Pager) (r : Ruled p) where
   seats_ruled : (f u e : ℕ) → Waits p.tables p.rows f u e → Ruled (seats f u e p)
   seats_ruled f u e w = record { matches = seat r.matches f u e w.frame w.page w.empty w.absent; hand = r.hand; opened = tt }
 
-  evicts_ruled : (u e : ℕ) → Page u e → entry p.tables u e ≡ 0 → lowest_free p.rows ≡ Nothing → Ruled (evicts u e p).pager
+  evicts_ruled : (u e : ℕ) → Page u e → entry p.tables u e ≡ 0 → lowest_free p.rows ≡ None → Ruled (evicts u e p).pager
   evicts_ruled u e page absent full = record {
     matches = unseat m f old.owner old.page r.hand s.page refl;
     hand = mod-lt (f + 1) (omega arith);

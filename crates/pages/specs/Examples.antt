@@ -1,5 +1,7 @@
 -- Worked rows, by computing.
-use Rattle.std.specs.Prelude.{true, false, ◌≡◌, refl, List, [], ◌∷◌, ℕ, zero, suc, ◌+◌}
+use Rattle.std.specs.Prelude.{Some, None, true, false, ◌≡◌, refl, List, [], ◌∷◌, ℕ, zero, suc, ◌+◌}
+use Rattle.pages.specs.declared.Refusal.{Refusal}
+use Rattle.pages.specs.declared.Refusal.TheVariants.{NoSuchUproc, OutOfTurn}
 use Rattle.pages.specs.declared.Cause.TheVariants.{Load, Store, Modification}
 use Rattle.pages.specs.declared.Event.{Event}
 use Rattle.pages.specs.declared.Event.TheVariants.{Refill, Fault, Report, End}
@@ -9,10 +11,10 @@ use Rattle.pages.specs.declared.Answer.{Answer}
 use Rattle.pages.specs.Rules.{entry_of, refill, fault, ends, step, run, answers, fresh}
 
 abbrev says : Word → Answer
-says w = record { refusal = 0; word = w }
+says w = record { refusal = None; word = w }
 
-abbrev refuses : ℕ → Answer
-refuses n = record { refusal = n; word = word.None }
+abbrev refuses : Refusal → Answer
+refuses r = record { refusal = Some r; word = word.None }
 
 -- n pages of U-proc 1 from entry k on, each read
 abbrev loads : ℕ → ℕ → List Event
@@ -27,7 +29,7 @@ one = refl
 
 -- 9, then 11, then a program trap; a modification; the pages at the ends
 order : answers (Refill 9 524288 ∷ Report true ∷ Fault 2 524288 Modification ∷ Refill 2 524318 ∷ Refill 2 524319 ∷ Refill 2 786431 ∷ Fault 2 524287 Load ∷ Fault 2 786431 Load ∷ Refill 0 524288 ∷ Fault 2 524288 Modification ∷ Refill 2 524288 ∷ End 3 ∷ Report false ∷ Refill 2 786431 ∷ []) fresh
-    ≡ refuses 9 ∷ refuses 11 ∷ says (word.Trap 2) ∷ says (word.Entry 2 30 0) ∷ says (word.Trap 2) ∷ says (word.Entry 2 31 0) ∷ says (word.Trap 2) ∷ says (word.Read 0 2 31) ∷ refuses 9 ∷ refuses 11 ∷ refuses 11 ∷ refuses 11 ∷ says (word.Trap 2) ∷ says (word.Entry 2 31 0) ∷ []
+    ≡ refuses NoSuchUproc ∷ refuses OutOfTurn ∷ says (word.Trap 2) ∷ says (word.Entry 2 30 0) ∷ says (word.Trap 2) ∷ says (word.Entry 2 31 0) ∷ says (word.Trap 2) ∷ says (word.Read 0 2 31) ∷ refuses NoSuchUproc ∷ refuses OutOfTurn ∷ refuses OutOfTurn ∷ refuses OutOfTurn ∷ says (word.Trap 2) ∷ says (word.Entry 2 31 0) ∷ []
 unfolding answers step refill fault ends entry_of
 order = refl
 

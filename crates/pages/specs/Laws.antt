@@ -1,9 +1,9 @@
 -- What is promised of any pager that obeys the rule, and so of any events from a fresh one. proofs/Promises has the
 -- theorem.
-use Rattle.std.specs.Prelude.{Bool, true, false, not, ◌&&◌, ◌≡◌, ◌≢◌, ◌⊎◌, List, [], ◌∷◌, ℕ, suc, ◌+◌, ◌%◌, ◌≤◌, ◌<◌, length, if◌then◌else◌}
+use Rattle.std.specs.Prelude.{None, Bool, true, false, not, ◌&&◌, ◌≡◌, ◌≢◌, ◌⊎◌, List, [], ◌∷◌, ℕ, suc, ◌+◌, ◌%◌, ◌≤◌, ◌<◌, length, if◌then◌else◌}
 use Rattle.rules.specs.Words.{among, count}
+use Rattle.pages.specs.declared.Refusal.TheVariants.{NoSuchUproc, OutOfTurn}
 use Rattle.pages.specs.declared.Row.{Row}
-use Rattle.pages.specs.declared.Cause.{Cause}
 use Rattle.pages.specs.declared.Event.{Event}
 use Rattle.pages.specs.declared.Event.TheVariants.{Refill, Fault, Report, End}
 use Rattle.pages.specs.declared.Transfer.{Transfer}
@@ -12,7 +12,7 @@ use Rattle.pages.specs.declared.Word.{Word}
 use Rattle.pages.specs.declared.Word.TheVariants as word
 use Rattle.pages.specs.declared.Pager.{Pager}
 use Rattle.pages.specs.declared.Turn.{Turn}
-use Rattle.pages.specs.Numbers.{u_procs, width, frames, no_such_uproc, out_of_turn}
+use Rattle.pages.specs.Numbers.{width, frames}
 use Rattle.pages.specs.Rules.{entry, row, held, is_free, refusing, step}
 use Rattle.pages.specs.Ruled.{Page, Ruled}
 
@@ -53,11 +53,11 @@ is_report (End u) = false
 
 -- "While a transfer is open all but its report is refused with 11 and changes nothing" (or with 9, which comes before)
 abbrev pub Untouched : Pager → Event → Turn → Type 0
-Untouched p v t = p.transfer ≢ Closed → is_report v ≡ false → (t ≡ refusing no_such_uproc p) ⊎ (t ≡ refusing out_of_turn p)
+Untouched p v t = p.transfer ≢ Closed → is_report v ≡ false → (t ≡ refusing NoSuchUproc p) ⊎ (t ≡ refusing OutOfTurn p)
 
 -- "a report with none open likewise"
 abbrev pub Unasked : Pager → Event → Turn → Type 0
-Unasked p v t = p.transfer ≡ Closed → is_report v ≡ true → t ≡ refusing out_of_turn p
+Unasked p v t = p.transfer ≡ Closed → is_report v ≡ true → t ≡ refusing OutOfTurn p
 
 -- "An evicted page is marked absent before its block is written"
 abbrev pub AbsentFirst : Turn → Type 0
@@ -96,7 +96,7 @@ abbrev pub LeavesNothing : Event → Turn → Type 0
 LeavesNothing (Refill u n) t = Unit {0}
 LeavesNothing (Fault u n c) t = Unit {0}
 LeavesNothing (Report ok) t = Unit {0}
-LeavesNothing (End u) t = t.answer.refusal ≡ 0 → ((f : ℕ) → (row t.pager.rows f).owner ≢ u) × ((e : ℕ) → e < width → entry t.pager.tables u e ≡ 0)
+LeavesNothing (End u) t = t.answer.refusal ≡ None → ((f : ℕ) → (row t.pager.rows f).owner ≢ u) × ((e : ℕ) → e < width → entry t.pager.tables u e ≡ 0)
 
 pub record Laws (p : Pager) (v : Event) : Type 0 where
   pub untouched : Untouched p v (step v p)

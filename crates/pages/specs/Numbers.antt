@@ -1,5 +1,7 @@
 -- The numbers of 02, (iv), each said here and nowhere else.
-use Rattle.std.specs.Prelude.{ℕ}
+use Rattle.std.specs.Prelude.{ℕ, Option, Some, None}
+use Rattle.pages.specs.declared.Refusal.{Refusal}
+use Rattle.pages.specs.declared.Refusal.TheVariants.{NoSuchUproc, OutOfTurn, AtOdds}
 
 -- "U-procs 1 to 8"
 abbrev pub u_procs : ℕ
@@ -29,14 +31,14 @@ stack_entry = 31
 
 -- ── Refusals ──
 
--- "any other number refused with 9"
-abbrev pub no_such_uproc : ℕ
-no_such_uproc = 9
+-- "any other number refused with 9"; "While a transfer is open all but its report is refused with 11 .., a report with
+-- none open likewise."; "a lent table not sixteen rows long or at odds with the page tables is refused with 12"
+abbrev pub refusal_number : Refusal → ℕ
+refusal_number NoSuchUproc = 9
+refusal_number OutOfTurn = 11
+refusal_number AtOdds = 12
 
--- "While a transfer is open all but its report is refused with 11 .., a report with none open likewise."
-abbrev pub out_of_turn : ℕ
-out_of_turn = 11
-
--- "a lent table not sixteen rows long or at odds with the page tables is refused with 12"
-abbrev pub at_odds : ℕ
-at_odds = 12
+-- as an answer tells it: 0 where nothing is refused
+abbrev pub told_number : Option Refusal → ℕ
+told_number None = 0
+told_number (Some r) = refusal_number r

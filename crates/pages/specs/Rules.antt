@@ -1,10 +1,10 @@
 -- The pager's rules, sentence by sentence of 02, (iv). The machine is the code's own: tables, rows, hand and open
 -- transfer.
-use Rattle.std.specs.Prelude.{Bool, true, false, ◌&&◌, ◌||◌, List, [], ◌∷◌, map, ℕ, zero, suc, ◌+◌, ◌-◌, ◌*◌, ◌%◌, eqb, leb, get_or, set, replicate, if◌then◌else◌}
+use Rattle.std.specs.Prelude.{Option, Some, None, Bool, true, false, ◌&&◌, ◌||◌, List, [], ◌∷◌, map, ℕ, zero, suc, ◌+◌, ◌-◌, ◌*◌, ◌%◌, eqb, leb, get_or, set, replicate, if◌then◌else◌}
 use Rattle.rules.specs.Words.{first, count}
+use Rattle.pages.specs.declared.Refusal.{Refusal}
+use Rattle.pages.specs.declared.Refusal.TheVariants.{NoSuchUproc, OutOfTurn}
 use Rattle.pages.specs.declared.Row.{Row}
-use Rattle.pages.specs.declared.Found.{Found}
-use Rattle.pages.specs.declared.Found.TheVariants.{At, Nothing}
 use Rattle.pages.specs.declared.Cause.{Cause}
 use Rattle.pages.specs.declared.Cause.TheVariants.{Load, Store, Modification}
 use Rattle.pages.specs.declared.Event.{Event}
@@ -17,7 +17,7 @@ use Rattle.pages.specs.declared.Word.TheVariants as word
 use Rattle.pages.specs.declared.Answer.{Answer}
 use Rattle.pages.specs.declared.Pager.{Pager}
 use Rattle.pages.specs.declared.Turn.{Turn}
-use Rattle.pages.specs.Numbers.{u_procs, width, frames, first_page, last_page, stack_page, stack_entry, no_such_uproc, out_of_turn}
+use Rattle.pages.specs.Numbers.{u_procs, width, frames, first_page, last_page, stack_page, stack_entry}
 
 -- ── Page tables: one a U-proc, 32 entries each; 0 is absent, f + 1 is present in frame f ──
 
@@ -59,12 +59,12 @@ abbrev pub names : ℕ → ℕ → Row → Bool
 names o e r = eqb r.owner o && (eqb o 0 || eqb r.page e)
 
 -- the first frame, counted from k, whose row passes a test
-abbrev pub first_frame : (Row → Bool) → ℕ → List Row → Found
-first_frame t k [] = Nothing
-first_frame t k (r ∷ rs) = if t r then At k else first_frame t (suc k) rs
+abbrev pub first_frame : (Row → Bool) → ℕ → List Row → Option ℕ
+first_frame t k [] = None
+first_frame t k (r ∷ rs) = if t r then Some k else first_frame t (suc k) rs
 
 -- "the lowest free frame"
-abbrev pub lowest_free : List Row → Found
+abbrev pub lowest_free : List Row → Option ℕ
 lowest_free rs = first_frame is_free 0 rs
 
 -- the mask of the frames that pass a test: bit n for frame n
@@ -82,11 +82,11 @@ marks u e v p = record { tables = mark p.tables u e v; rows = p.rows; hand = p.h
 
 -- ── Answers ──
 
-abbrev pub refusing : ℕ → Pager → Turn
-refusing n p = record { answer = record { refusal = n; word = word.None }; pager = p }
+abbrev pub refusing : Refusal → Pager → Turn
+refusing r p = record { answer = record { refusal = Some r; word = word.None }; pager = p }
 
 abbrev pub saying : Word → Pager → Turn
-saying w p = record { answer = record { refusal = 0; word = w }; pager = p }
+saying w p = record { answer = record { refusal = None; word = w }; pager = p }
 
 -- "is a program trap, changing nothing"; "both end in a program trap": of the U-proc that faulted
 abbrev pub trap : ℕ → Pager → Turn
@@ -127,9 +127,9 @@ evicts u e p =
 
 -- "Otherwise take the lowest free frame, and if there is none, the frame at the hand" (house rule: a free frame doesn't
 -- move the hand)
-abbrev pub takes : Found → ℕ → ℕ → Pager → Turn
-takes (At f) u e p = reads f u e p
-takes Nothing u e p = evicts u e p
+abbrev pub takes : Option ℕ → ℕ → ℕ → Pager → Turn
+takes (Some f) u e p = reads f u e p
+takes None u e p = evicts u e p
 
 -- "At a fault, a page already present only refreshes the TLB."
 abbrev pub wants : ℕ → ℕ → ℕ → Pager → Turn
@@ -182,17 +182,17 @@ ends u p =
 -- likewise."
 abbrev pub closed : Transfer → Pager → Turn → Turn
 closed Closed p t = t
-closed (Writing f u e old) p t = refusing out_of_turn p
-closed (Reading f u e) p t = refusing out_of_turn p
+closed (Writing f u e old) p t = refusing OutOfTurn p
+closed (Reading f u e) p t = refusing OutOfTurn p
 
 abbrev pub report : Transfer → Bool → Pager → Turn
-report Closed ok p = refusing out_of_turn p
+report Closed ok p = refusing OutOfTurn p
 report (Writing f u e old) ok p = written ok f u e old p
 report (Reading f u e) ok p = read ok f u e p
 
 -- 9 before 11 before a program trap
 abbrev pub of_uproc : ℕ → Pager → Turn → Turn
-of_uproc u p t = if is_uproc u then closed p.transfer p t else refusing no_such_uproc p
+of_uproc u p t = if is_uproc u then closed p.transfer p t else refusing NoSuchUproc p
 
 unfoldable pub step : Event → Pager → Turn
 step (Refill u n) p = of_uproc u p (refill u n p)

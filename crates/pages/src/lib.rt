@@ -1,6 +1,11 @@
 // The pager's words: what an event is, what an answer is, and what the pager keeps. The rules are in specs/Rules.
 #![tactic(auto)]
 
+ghost use Rattle.std.specs.Prelude.{◌≡◌};
+ghost use Rattle.pages.specs.Numbers.{refusal_number};
+ghost use Rattle.pages.specs.Rules.{entry, row, is_free};
+ghost use Rattle.pages.specs.Ruled.{Page};
+
 // The numbers that arrays are as long as; specs/Numbers has their sentences.
 pub const U_PROCS: usize = 8;
 
@@ -8,25 +13,42 @@ pub const ENTRIES: usize = 32;
 
 pub const FRAMES: usize = 16;
 
-// Refusals.
-pub const NO_SUCH_UPROC: u8 = 9;
+// What an event is refused for.
+#[derive(Clone, Copy, PartialEq, Eq)]
+pub enum Refusal {
+    NoSuchUproc,
+    OutOfTurn,
+    AtOdds,
+}
 
-pub const OUT_OF_TURN: u8 = 11;
+impl Refusal {
+    pub fn number(self) -> u8
+        ensures { result ≡ refusal_number self }
+    {
+        match self {
+            Refusal::NoSuchUproc => 9,
+            Refusal::OutOfTurn => 11,
+            Refusal::AtOdds => 12,
+        }
+    }
+}
 
-pub const AT_ODDS: u8 = 12;
-
-// A row of the swap table: whose page is in the frame, and which entry it is. Owner 0 is nobody's: the row is free.
+// A row of the swap table: whose page is in the frame, and which entry it is. Owner 0 is nobody's: the row is free. It
+// is no `Option`, since rows are lent and told as they lie, a free one with whatever its entry says.
 #[derive(Clone, Copy)]
 pub struct Row {
     pub owner: u8,
     pub page: u8,
 }
 
-// A frame, or that there is none.
-#[derive(Clone, Copy)]
-pub enum Found {
-    At(usize),
-    Nothing,
+pub const FREE: Row = Row { owner: 0, page: 0 };
+
+impl Row {
+    pub fn is_free(self) -> bool
+        ensures { result ≡ is_free self }
+    {
+        self.owner == 0
+    }
 }
 
 #[derive(Clone, Copy)]
@@ -49,13 +71,34 @@ pub enum Event {
     End(u32),
 }
 
-// A page table: for each entry 0 where the page is absent, or its frame's number and one.
+// A page table: for each entry 0 where the page is absent, or its frame's number and one. It is no `Option`, since a
+// refill answers "the page's entry as it stands", which is this number.
 #[derive(Clone, Copy)]
 pub struct Table {
     pub entries: [u8; ENTRIES],
 }
 
-// The open transfer: frame, U-proc and entry that are waited for; of a write also the row of the evicted page.
+pub const BLANK: Table = Table {
+    entries: [0; ENTRIES],
+};
+
+// An entry as it stands.
+pub fn entry_at(tables: [Table; U_PROCS], u: usize, e: usize) -> u8
+    requires { Page u e }
+    ensures { result ≡ entry tables u e }
+{
+    tables[u - 1].entries[e]
+}
+
+// The row of a frame; a free one where there is no such frame.
+pub fn row_at(rows: &[Row], f: usize) -> Row
+    ensures { result ≡ row rows.now f }
+{
+    rows.get(f).copied().unwrap_or(FREE)
+}
+
+// The open transfer: frame, U-proc and entry that are waited for; of a write also the row of the evicted page. Each rule
+// asks for one of the three cases, so an `Option` of two would only be taken apart twice.
 #[derive(Clone, Copy)]
 pub enum Transfer {
     Closed,
@@ -63,6 +106,8 @@ pub enum Transfer {
     Reading(u8, u8, u8),
 }
 
+// The parts of a word stand apart, here and in `Transfer`: each law of specs/Laws binds frame, U-proc and entry by
+// themselves, so a struct of two of them would only be taken apart in each.
 #[derive(Clone, Copy)]
 pub enum Word {
     None,
@@ -84,7 +129,7 @@ pub enum Word {
 
 #[derive(Clone, Copy)]
 pub struct Answer {
-    pub refusal: u8,
+    pub refusal: Option<Refusal>,
     pub word: Word,
 }
 

@@ -1,5 +1,4 @@
 -- Why the code does what the rule book says.
 pub mod Pages
 pub mod Refusals
-pub mod Reports
 pub mod Unique

@@ -1,19 +1,19 @@
--- The mask of a U-proc's frames, made from the last frame on, and rows changed one after the other.
+-- The mask of a U-proc's frames, made from the first frame on, and rows changed one after the other.
 use mathlib.Core.Bool.{Bool, true, false}
-use mathlib.Core.Path.{◌≡◌, refl, ap}
-use mathlib.Core.Logic.{◌≢◌}
+use mathlib.Core.Path.{◌≡◌, refl, sym, ◌∙◌, ap, subst}
 use mathlib.Core.List.{List, [], ◌∷◌, map}
-use Prim.Native.Nat.{ℕ, zero, suc, ◌+◌, ◌*◌, ◌-◌, ◌^◌, ◌≤◌, ◌<◌}
+use Prim.Native.Nat.{ℕ, zero, suc, ◌+◌, ◌*◌, ◌%◌, ◌^◌, ◌≤◌, ◌<◌}
 use native.Mathlib.Omega.{arith}
 use native.Mathlib.Nat.{not-suc-le-zero, le_of_suc-le-suc}
-use lib.ListN.{length, drop, set, get_or, length-drop}
-use borrow.Author.Tests.{eq-eqb, ne_eqb}
+use lib.ListN.{length, take, get_or, length-map, length-take}
+use denote.Param.Members.{Mut}
+use Rattle.std.specs.Fn.{Called}
+use Rattle.std.specs.Array.{MapsFrom, IsMapOf}
+use Rattle.std.proofs.lemmas.List.{same_lists, get_or-map}
 use Rattle.rules.specs.Words.{count}
 use Rattle.pages.specs.declared.Row.{Row}
 use Rattle.pages.specs.Numbers.{frames}
-use Rattle.pages.specs.Rules.{free, is_of, mask, freed}
-
--- ── The mask ──
+use Rattle.pages.specs.Rules.{mask}
 
 count_most : (b : Bool) → count b ≤ 1
 count_most true = omega arith
@@ -32,58 +32,41 @@ mask_below t (suc n) (x ∷ l) h = let z = mask_below t n l (le_of_suc-le-suc h)
 pub mask_fits : (t : Row → Bool) (l : List Row) → length l ≤ frames → mask t l < 65536
 mask_fits t l h = mask_below t frames l h
 
--- nor that of what is left of them
-pub left_fits : (t : Row → Bool) (l : List Row) (i m : ℕ) → length l ≡ frames → m ≡ mask t (drop i l) → m < 65536
-left_fits t l i m e q = rw q (mask_fits t (drop i l) (simp length-drop (omega arith)))
+-- one frame more
+pub mask_with : (t : Row → Bool) (l : List Row) (i : ℕ) (d : Row) → i < length l → t (get_or l i d) ≡ true → mask t (take i l) + 2 ^ i ≡ mask t (take (suc i) l)
+mask_with t [] i d h e = absurd (not-suc-le-zero h)
+mask_with t (x ∷ l) zero d h e = rw e refl
+mask_with t (x ∷ l) (suc i) d h e = let z = mask_with t l i d (le_of_suc-le-suc h) e in omega arith
 
--- the mask of the frames from i on, by that from the next one on
-pub mask_next : (t : Row → Bool) (l : List Row) (i : ℕ) (d : Row) → i < length l → mask t (drop (suc i) l) * 2 + count (t (get_or l i d)) ≡ mask t (drop i l)
-mask_next t [] i d h = absurd (not-suc-le-zero h)
-mask_next t (x ∷ l) zero d h = omega arith
-mask_next t (x ∷ l) (suc i) d h = mask_next t l i d (le_of_suc-le-suc h)
+pub mask_without : (t : Row → Bool) (l : List Row) (i : ℕ) (d : Row) → i < length l → t (get_or l i d) ≡ false → mask t (take i l) ≡ mask t (take (suc i) l)
+mask_without t [] i d h e = absurd (not-suc-le-zero h)
+mask_without t (x ∷ l) zero d h e = rw e refl
+mask_without t (x ∷ l) (suc i) d h e = let z = mask_without t l i d (le_of_suc-le-suc h) e in omega arith
 
--- the same, counted down
-pub mask_down : (t : Row → Bool) (l : List Row) (i m b : ℕ) (d : Row) → 0 < i → i ≤ length l → m ≡ mask t (drop i l) → b ≡ count (t (get_or l (i - 1) d)) → m * 2 + b ≡ mask t (drop (i - 1) l)
-mask_down t l i m b d h k e f = rw (e, f) (let y : suc (i - 1) ≡ i = omega arith in rw y at (mask_next t l (i - 1) d (omega arith)))
+-- the mask m of the frames before frame i, and frame i's bit
+module _ (t : Row → Bool) (l : List Row) (i m : ℕ) (d : Row) (e : length l ≡ frames) (h : i < frames) (q : m ≡ mask t (take i l)) where
+  pub one_more : t (get_or l i d) ≡ true → (m + (1 * 2 ^ i) % 65536 < 65536) × (m + (1 * 2 ^ i) % 65536 ≡ mask t (take (i + 1) l))
+  one_more p =
+      let z : m + 2 ^ i ≡ mask t (take (suc i) l) = rw q (mask_with t l i d (rw e h) p) in
+      let w = mask_fits t (take (suc i) l) (omega (arith, length-take (suc i) l)) in
+      let y : i + 1 ≡ suc i = omega arith in
+      (omega arith, rw y (omega arith))
 
-pub dropped_all : (l : List Row) (n : ℕ) → length l ≡ n → drop n l ≡ []
-dropped_all [] zero e = refl
-dropped_all [] (suc n) e = refl
-dropped_all (x ∷ l) zero e = absurd (let z : suc (length l) ≡ 0 = e in omega arith)
-dropped_all (x ∷ l) (suc n) e = dropped_all l n (let z : suc (length l) ≡ suc n = e in omega arith)
+  pub none_more : t (get_or l i d) ≡ false → m ≡ mask t (take (i + 1) l)
+  none_more p = let y : i + 1 ≡ suc i = omega arith in rw y (q ∙ mask_without t l i d (rw e h) p)
 
 -- ── Rows changed one after the other ──
 
-abbrev pub mapped : (Row → Row) → ℕ → List Row → List Row
-mapped f zero l = l
-mapped f (suc i) [] = []
-mapped f (suc i) (x ∷ l) = f x ∷ mapped f i l
+module _ {F : Type 0} (g : Mut F (Row × Unit {0}) Row) (h : Row → Row) (f : F) (pure : (x y : Row) (q : F) → Called g f (x, tt) y q → (q ≡ f) × (y ≡ h x)) where
+  mapped_from : (xs ys : List Row) (i n k : ℕ) (d : Row) → MapsFrom g f xs ys i n → k < n → get_or ys (i + k) d ≡ h (get_or xs (i + k) d)
+  mapped_from xs ys i zero k d m l = absurd (not-suc-le-zero l)
+  mapped_from xs ys i (suc n) zero d (q, x, y, a, b, c, m) l = let z : i + 0 ≡ i = omega arith in rw z (b.1 d ∙ (pure x y q c).1 ∙ ap h (sym (a.1 d)))
+  mapped_from xs ys i (suc n) (suc k) d (q, x, y, a, b, c, m) l =
+      let z : i + suc k ≡ i + 1 + k = omega arith in
+      rw z (mapped_from xs ys (i + 1) n k d (subst (λ (r : F). MapsFrom g r xs ys (i + 1) n) (pure x y q c).0 m) (le_of_suc-le-suc l))
 
-pub mapped_more : (f : Row → Row) (l : List Row) (i : ℕ) (d : Row) → i < length l → set (mapped f i l) i (f (get_or l i d)) ≡ mapped f (suc i) l
-mapped_more f [] i d h = absurd (not-suc-le-zero h)
-mapped_more f (x ∷ l) zero d h = refl
-mapped_more f (x ∷ l) (suc i) d h = ap (λ (r : List Row). f x ∷ r) (mapped_more f l i d (le_of_suc-le-suc h))
-
-pub mapped_next : (f : Row → Row) (l out : List Row) (i : ℕ) (d x : Row) → length l ≡ frames → i < frames → out ≡ mapped f i l → x ≡ f (get_or l i d) → set out i x ≡ mapped f (i + 1) l
-mapped_next f l out i d x e h q k = let y : i + 1 ≡ suc i = omega arith in rw (y, q, k) (mapped_more f l i d (rw e h))
-
-pub mapped_all : (f : Row → Row) (l : List Row) (i : ℕ) → length l ≤ i → mapped f i l ≡ map f l
-mapped_all f [] zero h = refl
-mapped_all f [] (suc i) h = refl
-mapped_all f (x ∷ l) zero h = absurd (not-suc-le-zero h)
-mapped_all f (x ∷ l) (suc i) h = ap (λ (r : List Row). f x ∷ r) (mapped_all f l i (le_of_suc-le-suc h))
-
--- ── One row ──
-
-module _ (u : ℕ) (r : Row) where
-  pub bit_of : r.owner ≡ u → 1 ≡ count (is_of u r)
-  bit_of e = rw (eq-eqb r.owner u e) refl
-
-  pub bit_other : r.owner ≢ u → 0 ≡ count (is_of u r)
-  bit_other e = rw (ne_eqb r.owner u e) refl
-
-  pub freed_of : r.owner ≡ u → free ≡ freed u r
-  freed_of e = rw (eq-eqb r.owner u e) refl
-
-  pub freed_other : r.owner ≢ u → r ≡ freed u r
-  freed_other e = rw (ne_eqb r.owner u e) refl
+  pub mapped : (xs ys : List Row) (n : ℕ) → length xs ≡ n → IsMapOf g f xs ys n → ys ≡ map h xs
+  mapped xs ys n e m = same_lists ys (map h xs) (m.long ∙ sym e ∙ sym (length-map xs h)) (λ k d b.
+      let z : 0 + k ≡ k = omega arith in
+      let l : k < n = rw m.long at b in
+      rw z at (mapped_from xs ys 0 n k d m.each l) ∙ sym (get_or-map h xs k d d (rw e l)))

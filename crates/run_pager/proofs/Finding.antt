@@ -6,8 +6,9 @@ use Rattle.words.specs.Texts.{line_at, nth}
 use Rattle.words.specs.Complaints.{complaint}
 use Rattle.words.proofs.Places.{next_further}
 use Rattle.pager_asks.specs.declared.Ask.{Ask}
-use Rattle.pager_asks.specs.declared.Ask.TheVariants.{Empty, Asked, Length, Set, Bad}
-use Rattle.pager_asks.specs.declared.Expected.{Expected}
+use Rattle.pager_asks.specs.declared.Bad.{Bad}
+use Rattle.std.specs.declared.result.Result.{Result}
+use Rattle.std.specs.declared.result.Result.TheVariants.{Ok, Err}
 use Rattle.pager_asks.specs.Asks.{ask_of}
 use Rattle.run_pager.specs.Told.{expected_text}
 use Rattle.run_pager.specs.Said.{line_of, is_good, good_from, good, line_complaint, complaint_from, complaint_of}
@@ -31,25 +32,16 @@ pub ends : (text : List ℕ) (at n : ℕ) → length text ≤ at → Finding tex
 ends text at n h d = let w = all_were d.lines text at n h in (sym d.is_good ∙ w.0, sym d.told ∙ w.1)
 
 module _ (text : List ℕ) (at n : ℕ) (h : at < length text) where
-  ask : Ask
-  ask = ask_of (line_of text at)
-
   -- a line that is good, and one that is bad
-  passes : (a : Ask) → is_good a ≡ true → (line : List ℕ) (further : List ℕ) → line_complaint a (n + 1) line further ≡ further
-  passes Empty e line further = refl
-  passes (Asked v) e line further = refl
-  passes (Length m) e line further = refl
-  passes (Set f row) e line further = refl
-  passes (Bad k x) e line further = cc
+  passes : (a : Result Ask Bad) → is_good a ≡ true → (line : List ℕ) (further : List ℕ) → line_complaint a (n + 1) line further ≡ further
+  passes (Ok a) e line further = refl
+  passes (Err b) e line further = cc
 
-  pub one_good : (a : Ask) → ((k : ℕ) (x : Expected) → a ≡ Bad k x → ⊥) → is_good a ≡ true
-  one_good Empty e = refl
-  one_good (Asked v) e = refl
-  one_good (Length m) e = refl
-  one_good (Set f row) e = refl
-  one_good (Bad k x) e = absurd (e k x refl)
+  pub one_good : (a : Result Ask Bad) → ((b : Bad) → a ≡ Err b → ⊥) → is_good a ≡ true
+  one_good (Ok a) e = refl
+  one_good (Err b) e = absurd (e b refl)
 
-  pub moved : {next : ℕ} {a : Ask} → a ≡ ask_of (line_of text at) → is_good a ≡ true → next ≡ (line_at text at).next → Finding text at n → Finding text next (n + 1)
+  pub moved : {next : ℕ} {a : Result Ask Bad} → a ≡ ask_of (line_of text at) → is_good a ≡ true → next ≡ (line_at text at).next → Finding text at n → Finding text next (n + 1)
   unfolding good_from complaint_from
   moved {next} {a} e g m d = rw m (go d.lines d.enough d.is_good d.told)
     where
@@ -67,15 +59,15 @@ module _ (text : List ℕ) (at n : ℕ) (h : at < length text) where
             told = sym (passes _ ok (line_of text at) (complaint_from f text (line_at text at).next (n + 1))) ∙ rw (lt-leb (length text) at h) at c;
           }
 
-  pub found : {a : Ask} {k : ℕ} {x : Expected} → a ≡ ask_of (line_of text at) → a ≡ Bad k x → Finding text at n
-      → (good text ≡ false) × (complaint_of text ≡ complaint (n + 1) (nth (line_of text at) k) (expected_text x))
+  pub found : {a : Result Ask Bad} {b : Bad} → a ≡ ask_of (line_of text at) → a ≡ Err b → Finding text at n
+      → (good text ≡ false) × (complaint_of text ≡ complaint (n + 1) (nth (line_of text at) b.word) (expected_text b.expected))
   unfolding good_from complaint_from
-  found {a} {k} {x} e b d = go d.lines d.enough d.is_good d.told
+  found {a} {b} e q d = go d.lines d.enough d.is_good d.told
     where
-      is : ask_of (line_of text at) ≡ Bad k x
-      is = sym e ∙ b
+      is : ask_of (line_of text at) ≡ Err b
+      is = sym e ∙ q
 
       go : (f : ℕ) → length text ≤ at + f → good_from f text at ≡ good text → complaint_from f text at n ≡ complaint_of text
-          → (good text ≡ false) × (complaint_of text ≡ complaint (n + 1) (nth (line_of text at) k) (expected_text x))
-      go zero e b c = absurd (omega arith)
-      go (suc f) e b c = (sym (rw (lt-leb (length text) at h, is) at b), sym (rw (lt-leb (length text) at h, is) at c))
+          → (good text ≡ false) × (complaint_of text ≡ complaint (n + 1) (nth (line_of text at) b.word) (expected_text b.expected))
+      go zero e x c = absurd (omega arith)
+      go (suc f) e x c = (sym (rw (lt-leb (length text) at h, is) at x), sym (rw (lt-leb (length text) at h, is) at c))

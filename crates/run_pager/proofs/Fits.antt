@@ -6,18 +6,16 @@ use Prim.Native.Nat.{ℕ, ◌≤◌}
 use native.Mathlib.Omega.{arith}
 use lib.Dec.{leb}
 use lib.ListN.{length, drop, length-append}
-use Rattle.std.specs.Prelude.{if◌then◌else◌}
-use Rattle.report.specs.declared.Written.{Written}
-use Rattle.report.specs.declared.Written.TheVariants.{Bytes, NoRoom}
+use Rattle.std.specs.Prelude.{Some, None, if◌then◌else◌}
 use Rattle.report.specs.Buffer.{Writes, longest}
 use Rattle.words.specs.Complaints.{Complains}
 
-fits : (b : Bool) (text before after : List ℕ) (n : ℕ) → Bytes n ≡ if b then Bytes (length text) else NoRoom → after ≡ if b then text ++ drop (length text) before else before → n ≤ length after
+fits : (b : Bool) (text before after : List ℕ) (n : ℕ) → Some n ≡ if b then Some (length text) else None → after ≡ if b then text ++ drop (length text) before else before → n ≤ length after
 fits true text before after n e h = let z : n ≡ length text = cc in rw h (omega (arith, length-append text (drop (length text) before)))
 fits false text before after n e h = let z : ◌≡◌ {A = ℕ} 0 1 = cc in absurd (omega arith)
 
-pub line_fits : {text before after : List ℕ} {n : ℕ} → Writes text before after (Bytes n) → n ≤ length after
+pub line_fits : {text before after : List ℕ} {n : ℕ} → Writes text before after (Some n) → n ≤ length after
 line_fits {text} {before} {after} {n} w = fits (leb longest (length before)) text before after n w.said w.bytes
 
-pub complaint_fits : {text before after : List ℕ} {room n : ℕ} → Complains text room before after (Bytes n) → n ≤ length after
+pub complaint_fits : {text before after : List ℕ} {room n : ℕ} → Complains text room before after (Some n) → n ≤ length after
 complaint_fits {text} {before} {after} {room} {n} w = fits (leb room (length before)) text before after n w.said w.bytes

@@ -11,7 +11,7 @@ use Rattle.lender.specs.Lender as lenders
 use Rattle.pager_asks.specs.declared.Ask.{Ask}
 use Rattle.pager_asks.specs.Asks.{ask_of}
 use Rattle.run_pager.specs.declared.Acted.{Acted}
-use Rattle.run_pager.specs.Acts.{acted}
+use Rattle.run_pager.specs.Acts.{asks, more, acted}
 use Rattle.run_pager.specs.Said.{line_of, answer_line, said_from, said}
 
 -- w is written, and with what follows from the place on it is the whole
@@ -35,26 +35,26 @@ ends text at t k n w h d = sym (append-nil w) ∙ ap (λ l. w ++ l) (sym (none_l
 -- one line, of what the code found
 module _ (text : List ℕ) (at : ℕ) (t : SwapTable) (k : Keeper) (n : ℕ) (w : List ℕ) (h : at < length text) where
   abbrev does : Acted
-  does = acted (ask_of (line_of text at)) t k
+  does = acted (asks (ask_of (line_of text at))) t k
 
-  one : (f : ℕ) → said_from (suc f) text at t k n ≡ answer_line (n + does.more) does ++ said_from f text (line_at text at).next does.table does.keeper (n + does.more)
+  one : (f : ℕ) → said_from (suc f) text at t k n ≡ answer_line (n + more does.answer) does ++ said_from f text (line_at text at).next does.table does.keeper (n + more does.answer)
   unfolding said_from
   one f = rw (lt-leb (length text) at h)
 
-  further : Telling text at t k n w → Telling text (line_at text at).next does.table does.keeper (n + does.more) (w ++ answer_line (n + does.more) does)
+  further : Telling text at t k n w → Telling text (line_at text at).next does.table does.keeper (n + more does.answer) (w ++ answer_line (n + more does.answer) does)
   further d = go d.lines d.enough d.bytes
     where
       go : (f : ℕ) → length text ≤ at + f → w ++ said_from f text at t k n ≡ said text
-          → Telling text (line_at text at).next does.table does.keeper (n + does.more) (w ++ answer_line (n + does.more) does)
+          → Telling text (line_at text at).next does.table does.keeper (n + more does.answer) (w ++ answer_line (n + more does.answer) does)
       go zero e b = absurd (omega arith)
       go (suc f) e b =
           let next = next_further text at h in
           record {
             lines = f;
             enough = omega (arith, next.0);
-            bytes = append_assoc w (answer_line (n + does.more) does) (said_from f text (line_at text at).next does.table does.keeper (n + does.more)) ∙ ap (λ l. w ++ l) (sym (one f)) ∙ b;
+            bytes = append_assoc w (answer_line (n + more does.answer) does) (said_from f text (line_at text at).next does.table does.keeper (n + more does.answer)) ∙ ap (λ l. w ++ l) (sym (one f)) ∙ b;
           }
 
-  pub moved : {next : ℕ} {ask : Ask} {d : Acted} → ask ≡ ask_of (line_of text at) → d ≡ acted ask t k → next ≡ (line_at text at).next
-      → Telling text at t k n w → Telling text next d.table d.keeper (n + d.more) (w ++ answer_line (n + d.more) d)
+  pub moved : {next : ℕ} {ask : Ask} {d : Acted} → ask ≡ asks (ask_of (line_of text at)) → d ≡ acted ask t k → next ≡ (line_at text at).next
+      → Telling text at t k n w → Telling text next d.table d.keeper (n + more d.answer) (w ++ answer_line (n + more d.answer) d)
   moved e a m d = rw (a, m, e) (further d)

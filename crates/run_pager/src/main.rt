@@ -3,39 +3,37 @@
 // it moves bytes.
 #![tactic(auto)]
 
-ghost use Rattle.std.specs.Prelude.{◌≡◌, ◌≤◌, ◌<◌, ◌==◌, true, [], length, IfOk, OnOk, if◌then◌else◌};
+ghost use Rattle.std.specs.Prelude.{◌≡◌, ◌≤◌, ◌<◌, true, length, IfOk, OnOk};
 ghost use Rattle.std.specs.Io.KnownBytes.{Keeps, Appends};
 ghost use Rattle.pager_text.specs.Answers.{line};
 ghost use Rattle.pager_asks.specs.declared.Ask.TheVariants.{Asked};
-ghost use Rattle.pager_asks.specs.Asks.{Sized};
-ghost use Rattle.words.specs.Texts.{line_at, word_at, nth};
+ghost use Rattle.pager_asks.specs.Asks.{Sized, ask_of};
+ghost use Rattle.words.specs.Texts.{line_at, nth};
 ghost use Rattle.words.specs.Complaints.{complaint};
-ghost use Rattle.run_pager.specs.Acts.{Standing, quiet, acted};
+ghost use Rattle.run_pager.specs.Acts.{Standing, asks, more, quiet, acted};
 ghost use Rattle.run_pager.specs.Told.{expected_text};
-ghost use Rattle.run_pager.specs.Said.{said, good, complaint_of, Ends};
+ghost use Rattle.run_pager.specs.Said.{answer_text, said, good, complaint_of, Ends};
 
-use lender::{SwapTable, resized, with_row};
-use lent::Keeper;
-use pager_asks::{Ask, Expected, asked_by};
+use lender::{Served, SwapTable, resized, with_row};
+use lent::{Keeper, Kept};
+use pager_asks::{Ask, Bad, Expected, asked_by};
 use pager_text::write_answer;
-use pages::{Answer, Event, Word};
-use report::Written;
+use pages::{Answer, Event};
 use std::io;
 use std::io::Write;
 use std::process::ExitCode;
 use streams::{READER_GONE, is_reader_gone};
-use words::{Line, Word as Span, complain, line_at, word_at};
+use words::{Line, complain, line_at, nth_word};
 
 // One byte more than a text may have.
 const ENOUGH: usize = 65537;
 
-// The table that is lent to the pager, what the pager keeps, and its answer; 1 where there is one, else 0.
+// The table that is lent to the pager, what the pager keeps, and its answer where there is one.
 #[derive(Clone, Copy)]
 struct Acted {
     table: SwapTable,
     keeper: Keeper,
-    more: u32,
-    answer: Answer,
+    answer: Option<Answer>,
 }
 
 // How a text ends: all is answered; a bad line is told; a line can't be written; or whoever read them has gone.
@@ -53,11 +51,7 @@ fn silent(t: SwapTable, k: Keeper) -> Acted
     Acted {
         table: t,
         keeper: k,
-        more: 0,
-        answer: Answer {
-            refusal: 0,
-            word: Word::None,
-        },
+        answer: None,
     }
 }
 
@@ -66,30 +60,46 @@ fn asked(t: SwapTable, k: Keeper, v: Event) -> Acted
     requires { Standing t k }
     ensures { result ≡ acted (Asked v) t k }
 {
-    let done = lender::event(t, k, v);
-    let turn = done.turn;
-    let table = done.table;
-    let keeper = turn.keeper;
-    let answer = turn.answer;
+    let Served { turn, table } = lender::event(t, k, v);
+    let Kept { answer, keeper } = turn;
     Acted {
-        table: table,
-        keeper: keeper,
-        more: 1,
-        answer: answer,
+        table,
+        keeper,
+        answer: Some(answer),
+    }
+}
+
+// What a line asks; nothing where it is bad, as none is of a text that is answered.
+fn ask_in(line: &[u8]) -> Ask
+    ensures { result ≡ asks (ask_of line.now) }
+{
+    match asked_by(line) {
+        Ok(ask) => ask,
+        Err(_) => Ask::Empty,
     }
 }
 
 // What a line asks is done.
 fn act(t: SwapTable, k: Keeper, ask: Ask) -> Acted
     requires { Standing t k × Sized ask }
-    ensures { (result ≡ acted ask t k) × Standing result.table result.keeper × (result.more ≤ 1) }
+    ensures { (result ≡ acted ask t k) × Standing result.table result.keeper }
 {
     match ask {
         Ask::Empty => silent(t, k),
         Ask::Asked(v) => asked(t, k, v),
         Ask::Length(n) => silent(resized(t, n), k),
         Ask::Set(f, row) => silent(with_row(t, f, row), k),
-        Ask::Bad(_, _) => silent(t, k),
+    }
+}
+
+// How many answers that is.
+fn more(answer: Option<Answer>) -> u32
+    ensures value { result ≡ more answer }
+    ensures most { result ≤ 1 }
+{
+    match answer {
+        Some(_) => 1,
+        None => 0,
     }
 }
 
@@ -98,21 +108,20 @@ fn answered<W: Write>(out: &mut W, number: u32, answer: Answer) -> io::Result<()
     ensures { OnOk result (Appends (W.contents out.old) (W.contents out.new) (line number answer)) }
 {
     let mut said = [0u8; 128];
-    let written = write_answer(&mut said, number, answer);
-    let Written::Bytes(n) = written else {
+    let Some(n) = write_answer(&mut said, number, answer) else {
         unreachable!();
     };
     out.write_all(&said[..n])
 }
 
 // The same, where there is an answer.
-fn told<W: Write>(out: &mut W, more: u32, number: u32, answer: Answer) -> io::Result<()>
-    ensures { OnOk result (Appends (W.contents out.old) (W.contents out.new) (if more == 0 then [] else line number answer)) }
+fn told<W: Write>(out: &mut W, number: u32, answer: Option<Answer>) -> io::Result<()>
+    ensures { OnOk result (Appends (W.contents out.old) (W.contents out.new) (answer_text number answer)) }
 {
-    if more == 0 {
-        return Ok(());
+    match answer {
+        Some(answer) => answered(out, number, answer),
+        None => Ok(()),
     }
-    answered(out, number, answer)
 }
 
 // The line at a place: within the text, and the next one begins behind it.
@@ -133,15 +142,14 @@ fn run<W: Write>(out: &mut W, text: &[u8]) -> io::Result<()>
     let mut k = lent::fresh();
     let mut number: u32 = 0;
     let mut at: usize = 0;
+    // No iterator gives these lines: where the next one begins is what `words` says of this one.
     while at < text.len() {
         let line = line_in(text, at);
         let end = line.end;
-        let ask = asked_by(&text[at..end]);
+        let ask = ask_in(&text[at..end]);
         let done = act(t, k, ask);
-        let answer = done.answer;
-        let more = done.more;
-        number = number + more;
-        told(out, more, number, answer)?;
+        number += more(done.answer);
+        told(out, number, done.answer)?;
         t = done.table;
         k = done.keeper;
         at = line.next;
@@ -149,29 +157,14 @@ fn run<W: Write>(out: &mut W, text: &[u8]) -> io::Result<()>
     Ok(())
 }
 
-// The k-th word of a line: within it.
-fn word_in(line: &[u8], k: usize) -> Span
-    ensures within { (result.from ≤ result.to) × (result.to ≤ length line.now) }
-    ensures place { result ≡ word_at line.now k }
+// What is said of a bad word of a line.
+fn tell<W: Write>(err: &mut W, line: &[u8], number: u64, bad: Bad) -> io::Result<()>
+    ensures { OnOk result (Appends (W.contents err.old) (W.contents err.new) (complaint number (nth line.now bad.word) (expected_text bad.expected))) }
 {
-    word_at(line, k)
-}
-
-// What is said of the k-th word of a line, which was expected to be something else.
-fn tell<W: Write>(
-    err: &mut W,
-    line: &[u8],
-    number: u64,
-    k: usize,
-    expected: Expected,
-) -> io::Result<()>
-    ensures { OnOk result (Appends (W.contents err.old) (W.contents err.new) (complaint number (nth line.now k) (expected_text expected))) }
-{
-    let word = word_in(line, k);
     let mut said = [0u8; 256];
-    let words = words_of(expected);
-    let written = complain(&mut said, number, &line[word.from..word.to], words);
-    let Written::Bytes(n) = written else {
+    let words = words_of(bad.expected);
+    let found = nth_word(line, bad.word);
+    let Some(n) = complain(&mut said, number, found, words) else {
         unreachable!();
     };
     err.write_all(&said[..n])
@@ -201,13 +194,14 @@ fn all_good<E: Write>(err: &mut E, text: &[u8]) -> io::Result<bool>
 {
     let mut number: u64 = 0;
     let mut at: usize = 0;
+    // As in `run`.
     while at < text.len() {
         number += 1;
         let line = line_in(text, at);
         let end = line.end;
         let ask = asked_by(&text[at..end]);
-        if let Ask::Bad(k, expected) = ask {
-            tell(err, &text[at..end], number, k, expected)?;
+        if let Err(bad) = ask {
+            tell(err, &text[at..end], number, bad)?;
             return Ok(false);
         }
         at = line.next;

@@ -1,6 +1,6 @@
 // The swap table as the desk lends it: "one row a frame, to be read and changed where it lies". Functions over such a
-// slice are few and thin: each reads or writes rows where they lie, and leaves the work to a covered function over a
-// sheet, which holds sixteen rows by value.
+// slice are few and thin: each reads or writes rows where they lie, and leaves the work to a function over a sheet,
+// which holds sixteen rows by value.
 #![tactic(auto)]
 
 ghost use Rattle.std.specs.Prelude.{◌≡◌, [], ◌+◌, ◌<◌, ◌^◌, length, take, set};
@@ -8,10 +8,10 @@ ghost use Rattle.pages.specs.Numbers.{frames};
 ghost use Rattle.pages.specs.Rules.{names, first_frame};
 ghost use Rattle.swap.specs.Sheets.{sheet_of, put, row_at, up_to_16, over};
 
-use pages::{FRAMES, Found, Row};
+use pages::{FRAMES, FREE, Row, row_at};
 use pool::first_named;
 
-// Sixteen rows, and how many there were.
+// Sixteen rows, and how many were lent. It is no slice: no heap, fixed memory, and the work is done by value.
 #[derive(Clone, Copy)]
 pub struct Sheet {
     pub rows: [Row; FRAMES],
@@ -23,12 +23,12 @@ pub fn with_row(s: Sheet, row: Row) -> Sheet
     requires { s.count + 1 < 2 ^ 64 }
     ensures { result ≡ put row s }
 {
-    let at = s.count;
-    let mut next = s;
-    next.count = at + 1;
-    if at < FRAMES {
-        next.rows[at] = row;
-        return next;
+    let mut next = Sheet {
+        count: s.count + 1,
+        ..s
+    };
+    if s.count < FRAMES {
+        next.rows[s.count] = row;
     }
     next
 }
@@ -38,7 +38,7 @@ pub fn blank() -> Sheet
     ensures { result ≡ sheet_of [] }
 {
     Sheet {
-        rows: [Row { owner: 0, page: 0 }; FRAMES],
+        rows: [FREE; FRAMES],
         count: 0,
     }
 }
@@ -48,25 +48,24 @@ pub fn read_rows(rows: &[Row]) -> Sheet
     ensures { result ≡ sheet_of rows.now }
 {
     let mut s = blank();
-    while s.count < rows.len() {
-        s = with_row(s, rows[s.count]);
+    for row in rows {
+        s = with_row(s, *row);
     }
     s
 }
 
 // The first row of the sheet that is of this owner and entry.
-pub fn named_in(s: Sheet, owner: u8, page: u8) -> Found
+pub fn named_in(s: Sheet, owner: u8, page: u8) -> Option<usize>
     ensures { result ≡ first_frame (names owner page) 0 (take s.count s.rows) }
 {
-    let rows = s.rows;
-    first_named(rows, s.count, owner, page)
+    first_named(&s.rows, s.count, owner, page)
 }
 
 // The first lent row that is of this owner and entry, among sixteen. A free row is that of owner 0.
-pub fn find(rows: &[Row], owner: u8, page: u8) -> Found
+pub fn find(rows: &[Row], owner: u8, page: u8) -> Option<usize>
     ensures { result ≡ first_frame (names owner page) 0 (take frames rows.now) }
 {
-    named_in(read_rows(rows), owner, page)
+    first_named(rows, FRAMES, owner, page)
 }
 
 // One lent row is set where it lies.
@@ -81,20 +80,14 @@ pub fn set_row(rows: &mut [Row], at: usize, row: Row)
 pub fn up_to_16(n: usize) -> usize
     ensures { result ≡ up_to_16 n }
 {
-    if n < FRAMES {
-        return n;
-    }
-    FRAMES
+    n.min(FRAMES)
 }
 
 // A row of the sheet, or a free one.
 pub fn row_of(s: Sheet, at: usize) -> Row
     ensures { result ≡ row_at s at }
 {
-    if at < FRAMES {
-        return s.rows[at];
-    }
-    Row { owner: 0, page: 0 }
+    row_at(&s.rows, at)
 }
 
 // The lent rows, written where they lie: as many as there are, up to sixteen.
@@ -102,9 +95,5 @@ pub fn write_rows(rows: &mut [Row], s: Sheet)
     ensures { rows.new ≡ over rows.old s.rows }
 {
     let n = up_to_16(rows.len());
-    let mut i: usize = 0;
-    while i < n {
-        set_row(rows, i, row_of(s, i));
-        i = i + 1;
-    }
+    rows[..n].copy_from_slice(&s.rows[..n]);
 }

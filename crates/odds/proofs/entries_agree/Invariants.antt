@@ -1,12 +1,7 @@
-use mathlib.Core.Path.{◌≡◌}
-use Prim.Native.Nat.{◌-◌, ◌≤◌}
-use lib.ListN.{drop}
-use Rattle.pages.specs.Numbers.{width}
+-- What is left says the same as the whole.
+use Rattle.std.proofs.Common.{◌≡◌, drop}
 use Rattle.odds.specs.Odds.{every, entry_agrees}
 use Rattle.odds.proofs.entries_agree.Given as goal
 
 abbrev pub invariant-loop-e : goal.invariant-loop-e
-invariant-loop-e l = (every (entry_agrees l.rows l.u) 0 l.t.entries ≡ every (entry_agrees l.rows l.u) l.e (drop l.e l.t.entries)) × (l.e ≤ width)
-
-abbrev pub decreases-loop-e : goal.decreases-loop-e
-decreases-loop-e l = width - l.e
+invariant-loop-e l = every (entry_agrees l.fn.rows l.fn.u) 0 l.fn.t.entries ≡ every (entry_agrees l.fn.rows l.fn.u) l.e (drop l.e l.fn.t.entries)

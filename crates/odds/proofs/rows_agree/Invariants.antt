@@ -1,12 +1,7 @@
-use mathlib.Core.Path.{◌≡◌}
-use Prim.Native.Nat.{◌-◌, ◌≤◌}
-use lib.ListN.{drop}
-use Rattle.pages.specs.Numbers.{frames}
+-- What is left says the same as the whole.
+use Rattle.std.proofs.Common.{◌≡◌, drop}
 use Rattle.odds.specs.Odds.{every, row_agrees}
 use Rattle.odds.proofs.rows_agree.Given as goal
 
 abbrev pub invariant-loop-f : goal.invariant-loop-f
-invariant-loop-f l = (every (row_agrees l.tables) 0 l.rows ≡ every (row_agrees l.tables) l.f (drop l.f l.rows)) × (l.f ≤ frames)
-
-abbrev pub decreases-loop-f : goal.decreases-loop-f
-decreases-loop-f l = frames - l.f
+invariant-loop-f l = every (row_agrees l.fn.tables) 0 l.fn.rows ≡ every (row_agrees l.fn.tables) l.f (drop l.f l.fn.rows)

@@ -1,15 +1,14 @@
-use mathlib.Core.Path.{◌∙◌}
-use Rattle.paging.proofs.Pages.{no_entry, some_entry}
-use borrow.Author.Rules.{rules}
+use Rattle.std.proofs.Common.{◌∙◌}
+use Rattle.paging.proofs.Pages.{entry_within, no_entry, some_entry}
 use Rattle.paging.proofs.refilled.Goals as goal
 
-pub returns-then-e-ge-NO_ENTRY : goal.returns-then-e-ge-NO_ENTRY
-returns-then-e-ge-NO_ENTRY c =
-    let a = c.args in
-    c.answered.ensures ∙ no_entry a.p a.u a.page (rw c.entry_number-e.ensures at c.if-e-ge-NO_ENTRY.true)
+pub entry_at-requires : goal.entry_at-requires
+entry_at-requires c = let a = c.args in record { from = c.requires.0; upto = c.requires.1; entries = entry_within a.page c.in-Some.e c.in-Some.ensures }
 
-pub returns : goal.returns
-returns c =
+pub returns-in-Some : goal.returns-in-Some
+returns-in-Some c =
     let a = c.args in
-    let e = c.entry_number-e in
-    c.answered-2.ensures ∙ rw c.entry_at-v.ensures (some_entry a.p a.u a.page e.result e.ensures (search rules))
+    c.answered.ensures ∙ rw c.entry_at.ensures (some_entry a.p a.u a.page c.in-Some.e c.in-Some.ensures)
+
+pub returns-in-None : goal.returns-in-None
+returns-in-None c = let a = c.args in c.answered-in-None.ensures ∙ no_entry a.p a.u a.page c.in-None.ensures

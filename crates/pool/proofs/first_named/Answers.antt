@@ -1,17 +1,13 @@
--- What is left of the rows says the same as the whole.
-use borrow.Author.Rules.{rules}
-use mathlib.Core.Path.{◌≡◌, refl, sym, ◌∙◌}
-use Prim.Native.Nat.{suc, ◌+◌}
-use native.Mathlib.Omega.{arith}
-use lib.ListN.{length}
-use Rattle.pages.specs.Numbers.{frames}
+use Rattle.std.proofs.Common.{rules, ◌∙◌, take}
+use borrow.Author.Tests.{tests}
+use Rattle.std.proofs.lemmas.Iterator.{YieldsList-from_slice, YieldsList-from_take}
+use Rattle.std.proofs.lemmas.Iterator.Search.{position_from_yields_List}
 use Rattle.pages.specs.Rules.{names}
-use Rattle.pool.proofs.Search.{search_miss}
+use Rattle.pool.proofs.Search.{first_position}
 use Rattle.pool.proofs.first_named.Goals as goal
 
-pub loop-i-preserved : goal.loop-i-preserved
-loop-i-preserved c =
+pub returns : goal.returns
+returns c =
     let a = c.args in
-    let sixteen : length a.rows ≡ frames = search rules in
-    let k : c.loop-i.i + 1 ≡ suc c.loop-i.i = omega arith in
-    (c.loop-i.invariant.0 ∙ search_miss (names a.owner a.page) a.rows a.n c.loop-i.i sixteen _ (search rules) (search rules) (sym c.is_named.ensures ∙ c.if-is_named.false) ∙ rw k refl, search rules)
+    let t = names a.owner a.page in
+    position_from_yields_List t _ _ c.position.result c.position.ensures.ran (YieldsList-from_take a.n (YieldsList-from_slice a.rows.now cc) cc) (λ x b q k. search (rules, tests)) ∙ first_position t (take a.n a.rows.now)

@@ -1,30 +1,25 @@
-use mathlib.Core.Path.{◌≡◌}
-use Prim.Native.Nat.{◌+◌, ◌*◌, ◌-◌}
-use native.Mathlib.Omega.{arith}
-use lib.ListN.{length, drop}
+use Rattle.std.proofs.Common.{rules, ◌≡◌, length, arith, ◌∙◌}
+use borrow.Author.Tests.{eq-eqb, ne_eqb}
 use Rattle.pages.specs.Numbers.{frames}
-use Rattle.pages.specs.Rules.{is_of, mask}
-use Rattle.pool.proofs.Ends.{left_fits, mask_down}
-use borrow.Author.Rules.{rules}
+use Rattle.pages.specs.Rules.{is_of}
+use Rattle.pool.proofs.Ends.{one_more, none_more}
 use Rattle.pool.proofs.frames_of.Goals as goal
-
-pub overflow_mul-m : goal.overflow_mul-m
-overflow_mul-m c =
-    let sixteen : length c.args.rows ≡ frames = search rules in
-    let z = left_fits (is_of c.args.u) c.args.rows c.loop-i.i c.loop-i.m sixteen c.loop-i.invariant.0 in
-    omega arith
+use Rattle.pool.proofs.frames_of.Goals.{then-row-u, else-row-u}
 
 pub overflow_add-m : goal.overflow_add-m
 overflow_add-m c =
-    let sixteen : length c.args.rows ≡ frames = search rules in
-    -- one frame more
-    let more : c.loop-i.m * 2 + c.bit.result ≡ mask (is_of c.args.u) (drop (c.loop-i.i - 1) c.args.rows) =
-    mask_down (is_of c.args.u) c.args.rows c.loop-i.i c.loop-i.m c.bit.result _ (search rules) (omega arith) c.loop-i.invariant.0 c.bit.ensures in
-    let z = left_fits (is_of c.args.u) c.args.rows (c.loop-i.i - 1) (c.loop-i.m * 2 + c.bit.result) sixteen more in
-    omega arith
+    let a = c.args in
+    let sixteen : length a.rows ≡ frames = search rules in
+    let l = c.loop-f in
+    let z = one_more (is_of a.u) a.rows l.f l.m _ sixteen c.loop-f-test.true l.invariant (eq-eqb _ a.u c.if-row-u.true) in
+    omega (arith, z.0)
 
-pub overflow_cast-result : goal.overflow_cast-result
-overflow_cast-result c =
-    let sixteen : length c.args.rows ≡ frames = search rules in
-    let z = left_fits (is_of c.args.u) c.args.rows c.loop-i.i c.loop-i.m sixteen c.loop-i.invariant.0 in
-    omega arith
+pub loop-f-preserved : goal.loop-f-preserved
+loop-f-preserved c =
+    let a = c.args in
+    let sixteen : length a.rows ≡ frames = search rules in
+    let l = c.loop-f in
+    elim c.if-row-u.branch [
+      | then-row-u w ↦ w.m-is ∙ (one_more (is_of a.u) a.rows l.f l.m _ sixteen c.loop-f-test.true l.invariant (eq-eqb _ a.u w.if-row-u.true)).1
+      | else-row-u w ↦ w.m-is ∙ none_more (is_of a.u) a.rows l.f l.m _ sixteen c.loop-f-test.true l.invariant (ne_eqb _ a.u w.if-row-u.false)
+    ]

@@ -1,12 +1,7 @@
-use mathlib.Core.Path.{◌≡◌}
-use Prim.Native.Nat.{◌≤◌}
-use lib.ListN.{drop}
-use Rattle.pages.specs.Numbers.{frames}
-use Rattle.pages.specs.Rules.{is_of, mask}
+-- The mask of the frames before this one.
+use Rattle.std.proofs.Common.{◌≡◌, take}
+use Rattle.pages.specs.Rules.{mask, is_of}
 use Rattle.pool.proofs.frames_of.Given as goal
 
-abbrev pub invariant-loop-i : goal.invariant-loop-i
-invariant-loop-i l = (l.m ≡ mask (is_of l.u) (drop l.i l.rows)) × (l.i ≤ frames)
-
-abbrev pub decreases-loop-i : goal.decreases-loop-i
-decreases-loop-i l = l.i
+abbrev pub invariant-loop-f : goal.invariant-loop-f
+invariant-loop-f l = l.m ≡ mask (is_of l.u) (take l.f l.fn.rows)

@@ -20,25 +20,25 @@ loop-at-preserved g c =
     record {
       few = omega (arith, loop.invariant.few, line.ensures.within.2);
       within = line.ensures.within.3;
-      finding = moved text loop.at loop.number c.loop-at-test.true asked (one_good text loop.at loop.number c.loop-at-test.true _ c.in_default.not-Bad) (ap (λ x. x.next) line.ensures.place) loop.invariant.finding;
+      finding = moved text loop.at loop.number c.loop-at-test.true asked (one_good text loop.at loop.number c.loop-at-test.true _ c.in_default.not-Err) (ap (λ x. x.next) line.ensures.place) loop.invariant.finding;
       quiet = loop.invariant.quiet;
     }
 
-pub returns-in-Bad-clause-good : goal.returns-in-Bad-clause-good
-returns-in-Bad-clause-good g c =
+pub returns-in-Err-clause-good : goal.returns-in-Err-clause-good
+returns-in-Err-clause-good g c =
     let text = c.args.text.now in
     let loop = c.loop-at in
     let asked = c.asked_by-ask.ensures ∙ ap (λ x. ask_of (take (x.end - loop.at) (drop loop.at text))) c.line_in-line.ensures.place in
-    sym (found text loop.at loop.number c.loop-at-test.true asked c.in-Bad.is loop.invariant.finding).0
+    sym (found text loop.at loop.number c.loop-at-test.true asked c.in-Err.is loop.invariant.finding).0
 
-pub returns-in-Bad-clause-told : goal.returns-in-Bad-clause-told
-returns-in-Bad-clause-told g c =
+pub returns-in-Err-clause-told : goal.returns-in-Err-clause-told
+returns-in-Err-clause-told g c =
     let text = c.args.text.now in
     let loop = c.loop-at in
     let place = c.line_in-line.ensures.place in
     let asked = c.asked_by-ask.ensures ∙ ap (λ x. ask_of (take (x.end - loop.at) (drop loop.at text))) place in
-    let told = (found text loop.at loop.number c.loop-at-test.true asked c.in-Bad.is loop.invariant.finding).1 in
-    let line = ap (λ x. complaint (loop.number + 1) (nth (take (x.end - loop.at) (drop loop.at text)) c.in-Bad.k) (expected_text c.in-Bad.expected)) place in
+    let told = (found text loop.at loop.number c.loop-at-test.true asked c.in-Err.is loop.invariant.finding).1 in
+    let line = ap (λ x. complaint (loop.number + 1) (nth (take (x.end - loop.at) (drop loop.at text)) c.in-Err.bad.word) (expected_text c.in-Err.bad.expected)) place in
     let quiet = Appends-kept _ _ _ _ (Appends-nil (g.E.Write.contents c.args.err.now)) loop.invariant.quiet in
     subst (Appends (g.E.Write.contents c.args.err.now) (g.E.Write.contents c.tell.new.err)) (line ∙ sym told)
     (Appends-trans _ _ _ _ _ quiet c.in_ok-tell.ensures)

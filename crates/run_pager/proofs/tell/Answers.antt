@@ -1,4 +1,4 @@
-use Rattle.std.proofs.Common.{length, ◌≤◌, lit≤, ◌-◌, take, drop, arith, ap, ◌∙◌, subst}
+use Rattle.std.proofs.Common.{length, ◌≤◌, lit≤, arith, ap, ◌∙◌, subst}
 use Rattle.std.specs.Io.KnownBytes.{Appends}
 use Rattle.std.specs.Result.{OnOk}
 use Rattle.words.specs.Texts.{nth}
@@ -20,10 +20,8 @@ words_within Byte = lit≤ tt
 words_within Nothing = lit≤ tt
 
 pub returns : goal.returns
-unfolding nth
 returns g c =
     let a = c.args in
     let words = c.words_of-words.ensures in
-    let word = ap (λ w. take (w.to - w.from) (drop w.from a.line.now)) c.word_in-word.ensures.place in
-    let same = complaint_front _ _ _ _ _ (omega (arith, words_within a.expected, ap length words)) c.in-Bytes.ensures ∙ ap (λ w. complaint a.number w c.words_of-words.result.now) word ∙ ap (λ t. complaint a.number (nth a.line.now a.k) t) words in
+    let same = complaint_front _ _ _ _ _ (omega (arith, words_within a.bad.expected, ap length words)) c.in-Some.ensures ∙ ap (λ w. complaint a.number w c.words_of-words.result.now) c.nth_word-found.ensures ∙ ap (λ t. complaint a.number (nth a.line.now a.bad.word) t) words in
     subst (λ t. OnOk c.write_all.result (Appends (g.W.Write.contents a.err.now) (g.W.Write.contents c.write_all.new.self) t)) same c.write_all.ensures.bytes
