@@ -28,6 +28,7 @@ pub fn read<R: Read>(input: &mut R, buf: &mut [u8]) -> io::Result<usize>
     ensures end { IfOk result (λ n. n < length buf.new → IsAtEnd (R.remaining input.new)) }
 {
     let mut n = 0;
+    // No `for`: a read brings as many bytes as it likes, and the library has no read that says how many filled a buffer.
     while n < buf.len() {
         let more = input.read(&mut buf[n..])?;
         if more == 0 {
