@@ -22,7 +22,7 @@ function place(name) {
 }
 
 function part_of(name) {
-    if (name ~ /^lines::(find|lowest|marks)/) return "searches"
+    if (name ~ /^lines::(.*::)?(find|lowest|marks)/) return "searches"
     sub(/::.*/, "", name)
     if (name ~ /^(kin|answers|verdicts|tables|calls|events|looks|starts|rules)$/) return "desk"
     if (name ~ /^(seats|choices)$/) return "lines"
