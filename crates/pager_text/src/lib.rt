@@ -11,7 +11,7 @@ ghost use Rattle.pager_text.specs.Answers.{name, shown, seen_of, line_of, line};
 use pages::{Answer, Refusal, Word};
 use report::{add_number, put_byte, put_bytes, put_decimal};
 
-// As many bytes as the longest line has: that of `report`.
+// As many bytes as the longest line has at most: that of `report`.
 const LONGEST: usize = report::LONGEST;
 
 // The parts of an answer behind its word.

@@ -8,7 +8,7 @@ ghost use Rattle.std.specs.Io.KnownBytes.{Keeps, Appends};
 ghost use Rattle.pager_text.specs.Answers.{line};
 ghost use Rattle.pager_asks.specs.declared.Ask.TheVariants.{Asked};
 ghost use Rattle.pager_asks.specs.Asks.{Sized, ask_of};
-ghost use Rattle.words.specs.Texts.{line_at, nth};
+ghost use Rattle.words.specs.Texts.{nth};
 ghost use Rattle.words.specs.Complaints.{complaint};
 ghost use Rattle.run_pager.specs.Acts.{Standing, asks, more, quiet, acted};
 ghost use Rattle.run_pager.specs.Told.{expected_text};
@@ -23,7 +23,7 @@ use std::io;
 use std::io::Write;
 use std::process::ExitCode;
 use streams::{READER_GONE, is_reader_gone};
-use words::{Line, complain, line_at, nth_word};
+use words::{complain, line_in, nth_word};
 
 // One byte more than a text may have.
 const ENOUGH: usize = 65537;
@@ -122,15 +122,6 @@ fn told<W: Write>(out: &mut W, number: u32, answer: Option<Answer>) -> io::Resul
         Some(answer) => answered(out, number, answer),
         None => Ok(()),
     }
-}
-
-// The line at a place: within the text, and the next one begins behind it.
-fn line_in(text: &[u8], at: usize) -> Line
-    requires { at < length text.now }
-    ensures within { (at ≤ result.end) × (result.end ≤ length text.now) × (at < result.next) × (result.next ≤ length text.now) }
-    ensures place { result ≡ line_at text.now at }
-{
-    line_at(text, at)
 }
 
 // The lines of a text whose lines are all good. A write that fails ends it.

@@ -5,7 +5,7 @@
 
 ghost use Rattle.std.specs.Prelude.{◌≡◌, ◌+◌, ◌≤◌, ◌<◌, length, IfOk, OnOk};
 ghost use Rattle.std.specs.Io.KnownBytes.{Appends};
-ghost use Rattle.words.specs.Texts.{line_at, nth};
+ghost use Rattle.words.specs.Texts.{nth};
 ghost use Rattle.words.specs.Complaints.{complaint};
 ghost use Rattle.sleeping.specs.Promised.{Good, Whole, view};
 ghost use Rattle.sleep_text.specs.Lines.{wanted_text};
@@ -18,7 +18,7 @@ use std::io;
 use std::io::Write;
 use std::process::ExitCode;
 use streams::{READER_GONE, is_reader_gone};
-use words::{Line, line_at};
+use words::line_in;
 
 // One byte more than a text may have, 65,536: enough to know that it has more.
 const ENOUGH: usize = 65537;
@@ -90,15 +90,6 @@ fn turn<W: Write>(
         sleepers: after,
         number: number + 1,
     })
-}
-
-// The line at a place: within the text, and the next one begins behind it.
-fn line_in(text: &[u8], at: usize) -> Line
-    requires { at < length text.now }
-    ensures within { (at ≤ result.end) × (result.end ≤ length text.now) × (at < result.next) × (result.next ≤ length text.now) }
-    ensures place { result ≡ line_at text.now at }
-{
-    line_at(text, at)
 }
 
 // Every line in order. A write that fails ends it.

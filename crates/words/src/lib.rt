@@ -1,6 +1,6 @@
 // A text taken apart by lines and words, for the programs that read one, and the complaint that such a program
-// makes of a bad line. A word that is no number that is allowed says `None`. A line ends at a newline; blanks and tabs stand between its words; `#` begins a remark to
-// the line's end. A place is counted in bytes from 0; at or past the end of a text there is nothing more.
+// makes of a bad line. A word that is no number that is allowed says `None`. A line ends at a newline; blanks and tabs
+// stand between its words; `#` begins a remark to the line's end. A place is counted in bytes from 0; at or past the end of a text there is nothing more.
 #![tactic(auto)]
 
 ghost use Rattle.std.specs.Prelude.{◌≡◌, ℕ, Bool, ◌+◌, ◌≤◌, ◌<◌, eqb, length, drop};
@@ -60,6 +60,15 @@ pub fn line_at(text: &[u8], at: usize) -> Line
         };
     }
     Line { end, next: stop }
+}
+
+// The line at a place: within the text, and the next one begins behind it.
+pub fn line_in(text: &[u8], at: usize) -> Line
+    requires { at < length text.now }
+    ensures within { (at ≤ result.end) × (result.end ≤ length text.now) × (at < result.next) × (result.next ≤ length text.now) }
+    ensures place { result ≡ line_at text.now at }
+{
+    line_at(text, at)
 }
 
 // The first word of a line from a place on.

@@ -1,5 +1,5 @@
 use Rattle.words.proofs.Places.{end_place, end_within, next_further}
-use Rattle.run_pager.proofs.line_in.Goals as goal
+use Rattle.words.proofs.line_in.Goals as goal
 
 pub returns-clause-within : goal.returns-clause-within
 returns-clause-within c =
