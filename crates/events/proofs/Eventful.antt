@@ -5,9 +5,9 @@ use borrow.Author.Tests.{lt-leb}
 use Rattle.rules.specs.declared.Event.{Event}
 use Rattle.rules.specs.declared.Cause.TheVariants.{Tlb, General}
 use Rattle.rules.specs.declared.Answer.{Answer}
-use Rattle.rules.specs.Words.{first, maybe}
+use Rattle.rules.specs.Words.{first}
 use Rattle.rules.specs.Numbers.{base_slots, gap_limit, time_limit}
-use Rattle.std.specs.Prelude.{Option, Some, None, Result, Ok, Err}
+use Rattle.std.specs.Prelude.{Some, None, Result, Ok, Err}
 use Rattle.std.specs.Result.{result_err}
 use Rattle.std.proofs.lemmas.Option.{none-some}
 use Rattle.rules.specs.declared.Refusal.{Refusal}
@@ -130,14 +130,6 @@ module _ (m : Tables) (e : Event) where
           row_none h = rw (goes_on m on, line, code, lt-leb gap_limit g forth, le-ltb time_limit (m.total + g) room, running_test m, h)
 
 -- ---- what the verdict tells
-pub taken : (o : Option Refusal) → maybe {B = Result (Unit {0}) Refusal} o (Ok tt) Err ≡ Ok tt → o ≡ None
-taken None h = refl
-taken (Some w) h = absurd (none-some _ (sym (ap result_err h)))
-
-pub turned_away : (o : Option Refusal) (w : Refusal) → maybe {B = Result (Unit {0}) Refusal} o (Ok tt) Err ≡ Err w → o ≡ Some w
-turned_away None w h = absurd (none-some _ (ap result_err h))
-turned_away (Some v) w h = ap result_err h
-
 -- an event that is not refused has passed each row
 pub passes : (m : Tables) (e : Event) → refusal (view m) e ≡ None
     → (bad_line e ≡ false) × (m.total + gap (clock e) (view m) ≤ time_limit) × ((needs_runner e && leb base_slots m.running) ≡ false)

@@ -1,8 +1,8 @@
 // One event: "tables and one event go in; new tables and the next action come out".
 #![tactic(auto)]
 
-ghost use Rattle.std.specs.Prelude.{◌≡◌, false, ◌&&◌, nat_le, Ok, Err, IfOk};
-ghost use Rattle.rules.specs.Words.{maybe};
+ghost use Rattle.std.specs.Prelude.{◌≡◌, false, ◌&&◌, nat_le};
+ghost use Rattle.starts.specs.Verdict.{ok_unless};
 ghost use Rattle.rules.specs.Tables.{Sound};
 ghost use Rattle.rules.specs.Numbers.{base_slots, base_sems, base_customers};
 ghost use Rattle.rules.specs.Answers.{refusing, plain};
@@ -59,7 +59,7 @@ fn perform(t: Tables, e: Event) -> Settled
 // "The first that applies is given": the rows of the table, in its order.
 fn verdict(t: &Tables, e: Event) -> Result<(), Refusal>
     requires { Holds t.now }
-    ensures { result ≡ maybe (refusal (view t.now) e) (Ok tt) Err }
+    ensures { result ≡ ok_unless tt (refusal (view t.now) e) }
 {
     if t.status != Status::On {
         return Err(Refusal::Over);

@@ -1,7 +1,8 @@
 // What a host sees of a machine's tables. Nothing here changes them: tables are a value, and a look takes a copy.
 // Each promise is one equation for the result, for every argument: there is one result and no other. Slots and
 // customers are bytes, as in answers. Whether somebody is in a slot is told by the id (0 is nobody's) and by the place;
-// the other numbers are 0 where nobody is there: kept so, and no Option, as docs/PROMISES.md promises these zeros.
+// the other numbers are 0 where nobody is there: kept so, and no Option, as the definitions that the promises are say
+// these zeros (`row_at`, `seat_of`, `value`, `ceiling`).
 #![tactic(auto)]
 
 ghost use Rattle.std.specs.Prelude.{◌≡◌, length, ◌+◌, ◌<◌, ◌≤◌, None};

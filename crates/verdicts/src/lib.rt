@@ -127,7 +127,7 @@ pub fn call_code(a0: i32) -> Option<Service>
     }
 }
 
-// The number of the lowest bit set, 8 where none is.
+// The number of the lowest bit set, 8 where none is: kept a number, as the rule's own `lowest_bit` counts so.
 #[tactic(auto, using(crate::proofs::Tests::lowest))]
 fn lowest_bit(byte: u8) -> u8
     ensures { result ≡ lowest_bit 8 byte }

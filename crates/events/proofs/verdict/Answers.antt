@@ -1,10 +1,10 @@
 -- `verdict`: the rows of the table in their order. Assumes nothing.
-use Rattle.std.proofs.Common.{◌≡◌, ℕ, ◌+◌, ◌%◌, ◌^◌, ◌<◌, ◌≤◌, false, sym, ap, ◌∙◌, arith, rules, Some, None, Option, Result, Ok, Err}
+use Rattle.std.proofs.Common.{◌≡◌, ℕ, ◌+◌, ◌%◌, ◌^◌, ◌<◌, ◌≤◌, false, sym, ap, ◌∙◌, arith, rules, Some, None, Option, Ok, Err}
 use Rattle.rules.specs.declared.Event.{Event}
 use Rattle.rules.specs.declared.Refusal.{Refusal}
 use Rattle.rules.specs.declared.Status.TheVariants.{On}
 use Rattle.tables.specs.declared.Tables.{Tables}
-use Rattle.rules.specs.Words.{maybe}
+use Rattle.starts.specs.Verdict.{ok_unless}
 use Rattle.rules.specs.Numbers.{gap_limit, time_limit}
 use Rattle.rules.specs.Machine.{gap}
 use Rattle.rules.specs.Rules.{clock, bad_line, bad_code}
@@ -18,8 +18,8 @@ gap_told : (m : Tables) (e : Event) (g now : ℕ) → g < 2 ^ 32 → now < 2 ^ 3
 gap_told m e g now a b l difference reading = gap_is m g now a b l difference ∙ ap (λ n. gap n (view m)) reading
 
 -- what is said of a refusal, or of none
-said : {o p : Option Refusal} → o ≡ p → maybe {B = Result (Unit {0}) Refusal} p (Ok tt) Err ≡ maybe o (Ok tt) Err
-said e = ap (λ (o : Option Refusal). maybe {B = Result (Unit {0}) Refusal} o (Ok tt) Err) (sym e)
+said : {o p : Option Refusal} → o ≡ p → ok_unless tt p ≡ ok_unless (tt {0}) o
+said e = ap (ok_unless tt) (sym e)
 
 pub returns-then-ne : goal.returns-then-ne
 returns-then-ne c = said {p = Some _} (row_over c.args.t.now c.args.e (search rules))

@@ -1,4 +1,5 @@
 -- `Tables::schedule` meets its contract.
+use Rattle.tables.specs.Promised.{run_next}
 use Rattle.std.proofs.Common.{◌≡◌, ℕ, Bool, List, ◌<◌, true, false, length, sym, ◌∙◌, arith, eqb-true, eq-eqb, pos_of_ne-zero, true≢false}
 use lib.ListN.{length-map}
 use Rattle.rules.specs.Machine.{Process, takes_low, low_turn, counted}
@@ -42,7 +43,8 @@ returns-then-takes_low c =
     let count = count_of c.args.self c.requires.0 c.counted-count.ensures in
     let turn = sym (turn_of c.args.self c.requires.0 c.takes_low.ensures) ∙ c.if-takes_low.true in
     let some-low = some_low c.args.self c.requires.0 turn in
-    rw (c.runs.ensures, c.remove-slot.ensures.0, c.remove-slot.ensures.1)
+    let told : c.runs.result ≡ run_next c.remove-slot.result c.counted-count.result c.args.x (record c.args.self { low = c.remove-slot.new.self }) = c.runs.ensures in
+    rw (told, c.remove-slot.ensures.0, c.remove-slot.ensures.1)
     (low_comes c.args.x c.args.self c.requires.0 c.requires.1 c.counted-count.result count turn some-low)
 
 pub nobody_ready-requires : goal.nobody_ready-requires
@@ -62,5 +64,6 @@ returns c =
     let count = count_of c.args.self c.requires.0 c.counted-count.ensures in
     let high-turn = sym (turn_of c.args.self c.requires.0 c.takes_low.ensures) ∙ c.if-takes_low.false in
     let some-high : 0 < c.args.self.high.count = pos_of_ne-zero (λ e. true≢false (sym (eq-eqb c.args.self.high.count 0 e) ∙ sym c.is_empty.ensures ∙ c.if-is_empty.false)) in
-    rw (c.runs-2.ensures, c.remove-slot-2.ensures.0, c.remove-slot-2.ensures.1)
+    let told : c.runs-2.result ≡ run_next c.remove-slot-2.result c.counted-count.result c.args.x (record c.args.self { high = c.remove-slot-2.new.self }) = c.runs-2.ensures in
+    rw (told, c.remove-slot-2.ensures.0, c.remove-slot-2.ensures.1)
     (high_comes c.args.x c.args.self c.requires.0 c.requires.1 c.counted-count.result count high-turn some-high)
