@@ -44,15 +44,19 @@ impl Queue {
     }
 
     // Who is at a place leaves: those behind it move up, and the last place is zero.
-    // "Ending a process removes it from its line without changing the order of the others."
+    // "Ending a process removes it from its line without changing the order of the others." A `for` over places: the
+    // library's `copy_within` brings both its ways along, so that what calls this is no more a part of its callers.
     pub fn remove(&mut self, at: usize) -> u8
         requires { (at < self.old.count) × (self.old.count ≤ base_slots) }
         ensures { (result ≡ get_or self.old.slots at 0) × (self.new ≡ without at self.old) }
     {
         let slot = self.slots[at];
-        self.slots.copy_within(at + 1..self.count, at);
-        self.count -= 1;
-        self.slots[self.count] = 0;
+        let last = self.count - 1;
+        for i in at..last {
+            self.slots[i] = self.slots[i + 1];
+        }
+        self.slots[last] = 0;
+        self.count = last;
         slot
     }
 
@@ -64,7 +68,7 @@ impl Queue {
     {
         self.slots[..self.count]
             .iter()
-            .position(|&s| (low..=high).contains(&lines[s as usize]))
+            .position(|&s| low <= lines[s as usize] && lines[s as usize] <= high)
     }
 
     // The slots that are not doomed move up, in their order, and the freed places are zero.

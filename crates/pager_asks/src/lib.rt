@@ -6,7 +6,7 @@ ghost use Rattle.pager_asks.specs.Asks;
 ghost use Rattle.pager_asks.specs.Asks.{bad, number_at, refill_ask, by_cause, fault_ask, report_ask, end_ask, rows_ask, row_ask, other_ask, ask_of};
 
 use pages::{Cause, Event, Row};
-use words::{absent_at, decimal_at, hexadecimal_at, same_at};
+use words::{absent_at, decimal, hexadecimal, nth_word, same_at};
 
 // The highest word of 32 bits, the highest byte, and as many rows as the lent table has at most.
 const WORD: u64 = 4294967295;
@@ -48,9 +48,10 @@ pub struct Bad {
 fn number(line: &[u8], k: usize, limit: u64, expected: Expected) -> Result<u64, Bad>
     ensures { MatchResult result (λ n. (number_at limit line.now k ≡ Some n) × (n ≤ limit)) (λ b. (number_at limit line.now k ≡ None) × (b ≡ bad k expected)) }
 {
-    match decimal_at(line, k, limit) {
+    let word = nth_word(line, k);
+    match decimal(word, limit) {
         Some(n) => Ok(n),
-        None => hexadecimal_at(line, k, limit).ok_or(Bad { word: k, expected }),
+        None => hexadecimal(word, limit).ok_or(Bad { word: k, expected }),
     }
 }
 

@@ -5,7 +5,7 @@ use mathlib.Core.List.{List, [], ◌∷◌}
 use Prim.Native.Nat.{ℕ, suc, ◌+◌, ◌^◌, ◌≤◌, ◌<◌}
 use native.Mathlib.Omega.{arith}
 use lib.ListN.{length, length-append}
-use mir.Syntax.{w32}
+use mir.Syntax.{w8, w32}
 use mir.Val.{Val, Fits}
 use denote.Laws.{Is}
 use denote.Struct.Declared.{row}
@@ -13,11 +13,8 @@ use Rattle.rules.specs.Words.{sum}
 use Rattle.report.specs.Text.{decimal, joined}
 use Rattle.report.specs.Buffer.{longest}
 use Rattle.report.proofs.Decimal.{length_within}
-use Rattle.pages.specs.declared.Refusal.{Refusal}
-use Rattle.pages.specs.declared.Refusal.TheVariants.{NoSuchUproc, OutOfTurn, AtOdds}
 use Rattle.pages.specs.declared.Word.{Word}
 use Rattle.pages.specs.declared.Word.TheVariants as word
-use Rattle.pages.specs.Numbers.{told_number}
 use Rattle.pager_text.specs.declared.Seen.{Seen}
 use Rattle.pager_text.specs.contracts.Seen.{the_type}
 use Rattle.pager_text.specs.Answers.{name, shown, parts, line_of}
@@ -62,12 +59,6 @@ known vs n s f h = record {
 
 -- ── How long the parts are ──
 
-refusal_length : (r : Option Refusal) → length (decimal (told_number r)) ≤ 3
-refusal_length None = length_within 0 2 (omega arith)
-refusal_length (Some NoSuchUproc) = length_within 9 2 (omega arith)
-refusal_length (Some OutOfTurn) = length_within 11 2 (omega arith)
-refusal_length (Some AtOdds) = length_within 12 2 (omega arith)
-
 shown_length : (o : Option ℕ) → InByte o → length (shown o) ≤ 3
 shown_length None h = omega arith
 shown_length (Some n) h = length_within n 2 (omega arith)
@@ -86,13 +77,13 @@ joined_length : (ps : List (List ℕ)) → length (joined ps) ≡ sum (λ p. suc
 joined_length [] = refl
 joined_length (p ∷ ps) = ap suc (length-append p (joined ps)) ∙ omega (arith, joined_length ps)
 
-module _ (vs : List Val) (n : ℕ) (r : Option Refusal) (w : Word) (s : Seen) (f : Fits w32 n) (h : Is (row the_type) s vs) where
+module _ (vs : List Val) (n r : ℕ) (w : Word) (s : Seen) (f : Fits w32 n) (g : Fits w8 r) (h : Is (row the_type) s vs) where
   pub within_known : length (line_of n r w s) ≤ longest
   unfolding line_of
   within_known =
       let k = known vs n s f h in
       rw (length-append (decimal n), joined_length)
-      (omega (arith, k.number, k.frames, length_within n 9 (omega arith), refusal_length r, name_length w, shown_length s.u k.u, shown_length s.entry k.entry, shown_length s.frame k.frame, length_within s.frames 4 (omega arith)))
+      (omega (arith, k.number, k.frames, g.fits, length_within n 9 (omega arith), length_within r 2 (omega arith), name_length w, shown_length s.u k.u, shown_length s.entry k.entry, shown_length s.frame k.frame, length_within s.frames 4 (omega arith)))
 
   -- the parts one by one: each has room behind those before it
   pub room_known : length (decimal n) + (sum (λ p. suc (length p)) (parts r w s) + 1) ≤ longest

@@ -1,12 +1,12 @@
 -- The line of an answer, in bytes: N REFUSAL WORD U ENTRY FRAME FRAMES.
 use Rattle.std.specs.Prelude.{List, [], ◌∷◌, ◌++◌, ℕ, zero, suc, Option, Some, None}
 use Rattle.report.specs.Text.{decimal, absent, joined}
-use Rattle.pages.specs.declared.Refusal.{Refusal}
 use Rattle.pages.specs.declared.Word.{Word}
 use Rattle.pages.specs.declared.Word.TheVariants as word
 use Rattle.pages.specs.declared.Answer.{Answer}
 use Rattle.pages.specs.Numbers.{told_number}
 use Rattle.pager_text.specs.declared.Seen.{Seen}
+use Rattle.pager_text.specs.declared.Told.{Told}
 
 -- "none, entry, refresh, write, read, resume, trap, freed", in bytes
 abbrev pub name : Word → List ℕ
@@ -41,11 +41,18 @@ abbrev pub shown : Option ℕ → List ℕ
 shown None = absent
 shown (Some n) = decimal n
 
-abbrev pub parts : Option Refusal → Word → Seen → List (List ℕ)
-parts r w s = decimal (told_number r) ∷ name w ∷ shown s.u ∷ shown s.entry ∷ shown s.frame ∷ decimal s.frames ∷ []
+abbrev pub parts : ℕ → Word → Seen → List (List ℕ)
+parts r w s = decimal r ∷ name w ∷ shown s.u ∷ shown s.entry ∷ shown s.frame ∷ decimal s.frames ∷ []
 
-unfoldable pub line_of : ℕ → Option Refusal → Word → Seen → List ℕ
+unfoldable pub line_of : ℕ → ℕ → Word → Seen → List ℕ
 line_of n r w s = decimal n ++ joined (parts r w s)
 
+-- what is told of an answer: "refusal or 0", and its word
+abbrev pub told_of : Answer → Told
+told_of a = record { refusal = told_number a.refusal; word = a.word }
+
+abbrev pub told_line : ℕ → Told → List ℕ
+told_line n t = line_of n t.refusal t.word (seen_of t.word)
+
 abbrev pub line : ℕ → Answer → List ℕ
-line n a = line_of n a.refusal a.word (seen_of a.word)
+line n a = told_line n (told_of a)

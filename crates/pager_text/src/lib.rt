@@ -5,14 +5,31 @@ ghost use Rattle.std.specs.Prelude.{Some, None, ◌≡◌, ◌∷◌, [], ◌+�
 ghost use Rattle.report.specs.Text.{decimal, space};
 ghost use Rattle.report.specs.Buffer.{Puts, Writes};
 ghost use Rattle.pager_text.specs.Answers;
-ghost use Rattle.pages.specs.Numbers.{told_number};
-ghost use Rattle.pager_text.specs.Answers.{name, shown, seen_of, line_of, line};
+ghost use Rattle.pager_text.specs.Answers.{name, shown, seen_of, line_of, told_of, told_line};
 
-use pages::{Answer, Refusal, Word};
-use report::{add_number, put_byte, put_bytes, put_decimal};
+use pages::{Answer, Word};
+use report::{Tell, add_number, put_byte, put_bytes, put_decimal};
 
 // As many bytes as the longest line has at most: that of `report`.
 const LONGEST: usize = report::LONGEST;
+
+// What a line tells of an answer, with a number for its refusal, any byte: "refusal or 0".
+#[derive(Clone, Copy)]
+pub struct Told {
+    pub refusal: u8,
+    pub word: Word,
+}
+
+impl Tell<Told> for Answer {
+    ghost told = { told_of };
+
+    fn tell(self) -> Told {
+        Told {
+            refusal: self.refusal.map_or(0, |refusal| refusal.number()),
+            word: self.word,
+        }
+    }
+}
 
 // The parts of an answer behind its word.
 #[derive(Clone, Copy)]
@@ -68,17 +85,6 @@ fn parts_of(w: Word) -> Seen
     }
 }
 
-// "refusal or 0"
-fn add_refusal(out: &mut [u8], at: usize, refusal: Option<Refusal>) -> usize
-    requires { at + length (space ∷ decimal (told_number refusal)) ≤ length out.old }
-    ensures { Puts (space ∷ decimal (told_number refusal)) out.old at out.new result }
-{
-    match refusal {
-        None => add_number(out, at, 0),
-        Some(refusal) => add_number(out, at, refusal.number() as u64),
-    }
-}
-
 // "the word is one of none, entry, refresh, write, read, resume, trap, freed"
 fn put_name(out: &mut [u8], at: usize, w: Word) -> usize
     requires { at + length (name w) ≤ length out.old }
@@ -116,20 +122,14 @@ fn add_shown(out: &mut [u8], at: usize, n: Option<u8>) -> usize
 }
 
 // The line of a word and what is seen of it.
-fn write_parts(
-    out: &mut [u8],
-    number: u32,
-    refusal: Option<Refusal>,
-    w: Word,
-    seen: Seen,
-) -> Option<usize>
+fn write_parts(out: &mut [u8], number: u32, refusal: u8, w: Word, seen: Seen) -> Option<usize>
     ensures { Writes (line_of number refusal w seen) out.old out.new result }
 {
     if out.len() < LONGEST {
         return None;
     }
     let mut at = put_decimal(out, 0, number as u64);
-    at = add_refusal(out, at, refusal);
+    at = add_number(out, at, refusal as u64);
     at = add_name(out, at, w);
     at = add_shown(out, at, seen.u);
     at = add_shown(out, at, seen.entry);
@@ -139,15 +139,10 @@ fn write_parts(
     Some(at)
 }
 
-// "N REFUSAL WORD U ENTRY FRAME FRAMES"
-pub fn write_answer(out: &mut [u8], number: u32, answer: Answer) -> Option<usize>
-    ensures { Writes (line number answer) out.old out.new result }
+// "N REFUSAL WORD U ENTRY FRAME FRAMES", of an answer, or of what is told of one: the refusal may be any byte.
+pub fn write_answer<A: Tell<Told>>(out: &mut [u8], number: u32, answer: A) -> Option<usize>
+    ensures { Writes (told_line number (A.told answer)) out.old out.new result }
 {
-    write_parts(
-        out,
-        number,
-        answer.refusal,
-        answer.word,
-        parts_of(answer.word),
-    )
+    let told = answer.tell();
+    write_parts(out, number, told.refusal, told.word, parts_of(told.word))
 }

@@ -1,15 +1,18 @@
 -- The mask of a U-proc's frames, made from the first frame on, and rows changed one after the other.
 use mathlib.Core.Bool.{Bool, true, false}
-use mathlib.Core.Path.{◌≡◌, refl, sym, ◌∙◌, ap, subst}
+use mathlib.Core.Path.{◌≡◌, refl, sym, ◌∙◌, subst}
 use mathlib.Core.List.{List, [], ◌∷◌, map}
 use Prim.Native.Nat.{ℕ, zero, suc, ◌+◌, ◌*◌, ◌%◌, ◌^◌, ◌≤◌, ◌<◌}
 use native.Mathlib.Omega.{arith}
 use native.Mathlib.Nat.{not-suc-le-zero, le_of_suc-le-suc}
+use native.Mathlib.Decide.{ℕ_discrete}
 use lib.ListN.{length, take, get_or, length-map, length-take}
 use denote.Param.Members.{Mut}
 use Rattle.std.specs.Fn.{Called}
-use Rattle.std.specs.Array.{MapsFrom, IsMapOf}
-use Rattle.std.proofs.lemmas.List.{same_lists, get_or-map}
+use Rattle.std.specs.Array.{IsFromFnResultFrom, IsFromFnResult, index_steps}
+use Rattle.std.specs.Iterator.{CallableAtEachTurn}
+use Rattle.std.proofs.lemmas.Fn.{serves_by}
+use Rattle.std.proofs.lemmas.List.{ext_get_or, get_or-map}
 use Rattle.rules.specs.Words.{count}
 use Rattle.pages.specs.declared.Row.{Row}
 use Rattle.pages.specs.Numbers.{frames}
@@ -55,18 +58,27 @@ module _ (t : Row → Bool) (l : List Row) (i m : ℕ) (d : Row) (e : length l �
   pub none_more : t (get_or l i d) ≡ false → m ≡ mask t (take (i + 1) l)
   none_more p = let y : i + 1 ≡ suc i = omega arith in rw y (q ∙ mask_without t l i d (rw e h) p)
 
--- ── Rows changed one after the other ──
+-- ── Rows made one after the other ──
 
-module _ {F : Type 0} (g : Mut F (Row × Unit {0}) Row) (h : Row → Row) (f : F) (pure : (x y : Row) (q : F) → Called g f (x, tt) y q → (q ≡ f) × (y ≡ h x)) where
-  mapped_from : (xs ys : List Row) (i n k : ℕ) (d : Row) → MapsFrom g f xs ys i n → k < n → get_or ys (i + k) d ≡ h (get_or xs (i + k) d)
-  mapped_from xs ys i zero k d m l = absurd (not-suc-le-zero l)
-  mapped_from xs ys i (suc n) zero d (q, x, y, a, b, c, m) l = let z : i + 0 ≡ i = omega arith in rw z (b.1 d ∙ (pure x y q c).1 ∙ ap h (sym (a.1 d)))
-  mapped_from xs ys i (suc n) (suc k) d (q, x, y, a, b, c, m) l =
-      let z : i + suc k ≡ i + 1 + k = omega arith in
-      rw z (mapped_from xs ys (i + 1) n k d (subst (λ (r : F). MapsFrom g r xs ys (i + 1) n) (pure x y q c).0 m) (le_of_suc-le-suc l))
+module _ {F : Type 0} (g : Mut F (ℕ × Unit {0}) Row) (f : F) (t : ℕ → Row) (stays : (x : ℕ) (y : Row) (q : F) → Called g f (x, tt) y q → (q ≡ f) × (y ≡ t x)) where
+  made_from : (ys : List Row) (n i : ℕ) → IsFromFnResultFrom g f ys i n → (s : ℕ) (d : Row) → i ≤ s → s < i + n → get_or ys s d ≡ t s
+  made_from ys zero i m s d a b = absurd (omega arith)
+  made_from ys (suc n) i m s d a b =
+      let here = stays i m.1 m.0 m.3 in
+      elim (ℕ_discrete s i) [
+        | yes e ↦ rw e (m.2.1 d ∙ here.1)
+        | no e ↦ made_from ys n (i + 1) (subst (λ q. IsFromFnResultFrom g q ys (i + 1) n) here.0 m.4) s d (omega arith) (omega arith)
+      ]
 
-  pub mapped : (xs ys : List Row) (n : ℕ) → length xs ≡ n → IsMapOf g f xs ys n → ys ≡ map h xs
-  mapped xs ys n e m = same_lists ys (map h xs) (m.long ∙ sym e ∙ sym (length-map xs h)) (λ k d b.
-      let z : 0 + k ≡ k = omega arith in
-      let l : k < n = rw m.long at b in
-      rw z at (mapped_from xs ys 0 n k d m.each l) ∙ sym (get_or-map h xs k d d (rw e l)))
+  -- each place has what is said of it
+  pub made : (xs ys : List Row) (h : Row → Row) (d : Row) → ((x : ℕ) → t x ≡ h (get_or xs x d)) → (n : ℕ) → length xs ≡ n → IsFromFnResult g f ys n → ys ≡ map h xs
+  made xs ys h d says n e m =
+      ext_get_or d ys (map h xs) (m.long ∙ sym e ∙ sym (length-map xs h))
+      (λ s b. let l : s < n = rw m.long at b in made_from ys n 0 m.each s d (omega arith) (omega arith) ∙ says s ∙ sym (get_or-map h xs s d d (rw e l)))
+
+-- ---- it may be called at each place
+module _ {P : Type 0} {R : P → ℕ → P → Type 0} {Q : P → ℕ → Type 0} {f : P} (stays : (x : ℕ) (q : P) → R f x q → q ≡ f) where
+  pub serves_places : (n : ℕ) → ((x : ℕ) → x < n → Q f x) → CallableAtEachTurn (index_steps n) R Q 0 f
+  serves_places n h =
+      serves_by R (λ xs q. q ≡ f) (λ xs q x w j r. stays x w (subst (λ k. R k x w) j r)) (index_steps n) Q 0 f refl
+      (λ xs t q x u y z j. subst (λ k. Q k x) (sym j) (h x (omega (arith, z))))

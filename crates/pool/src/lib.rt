@@ -6,6 +6,7 @@ ghost use Rattle.rules.specs.Words.{count};
 ghost use Rattle.pages.specs.Rules.{lowest_free, first_frame, names, mask, is_of, freed};
 
 use pages::{FRAMES, FREE, Row};
+use std::array::from_fn;
 
 // Is it the row of this owner and entry? A free row is the row of owner 0, whatever its entry says.
 fn is_named(row: Row, owner: u8, page: u8) -> bool
@@ -18,16 +19,18 @@ fn is_named(row: Row, owner: u8, page: u8) -> bool
 pub fn first_named(rows: &[Row], n: usize, owner: u8, page: u8) -> Option<usize>
     ensures { result ≡ first_frame (names owner page) 0 (take n rows.now) }
 {
-    rows.iter()
+    let i = rows
+        .iter()
         .take(n)
-        .position(|row| is_named(*row, owner, page))
+        .position(|row| is_named(*row, owner, page))?;
+    Some(i)
 }
 
 // "the lowest free frame"
 pub fn lowest_free(rows: [Row; FRAMES]) -> Option<usize>
     ensures { result ≡ lowest_free rows }
 {
-    rows.iter().position(|row| row.is_free())
+    first_named(&rows, FRAMES, 0, 0)
 }
 
 // The mask of a U-proc's frames.
@@ -53,5 +56,5 @@ fn freed_row(row: Row, u: u8) -> Row
 pub fn freed_rows(rows: [Row; FRAMES], u: u8) -> [Row; FRAMES]
     ensures { result ≡ map (freed u) rows }
 {
-    rows.map(|row| freed_row(row, u))
+    from_fn(|f| freed_row(rows[f], u))
 }

@@ -11,12 +11,12 @@ use Rattle.sleeping.specs.Promised.{told}
 use Rattle.std.specs.declared.option.Option.TheVariants.{Some}
 use Rattle.std.specs.declared.result.Result.TheVariants.{Ok}
 use Rattle.sleep_text.specs.Lines.{Parsed, parsed, line_of}
-use Rattle.sleep_text.specs.Answers.{answer_line}
+use Rattle.sleep_text.specs.Answers.{told_line, answer_line}
 use Rattle.run_sleep.specs.Said.{reply_line, is_gap, line_said, said_from, said}
 
 -- the line of an answer is the line of the reply that it stands for
 as_replied : (n : ℕ) (a : Answer) → answer_line n a ≡ reply_line n (told a)
-unfolding answer_line reply_line
+unfolding told_line reply_line
 as_replied n a = refl
 
 pub said_bytes : (p : Parsed) (o : Operation) (s : State) (n : ℕ) (a : Answer) → p ≡ Ok (Some o) → is_gap o ≡ false → told a ≡ (step o s).reply

@@ -19,7 +19,7 @@ use Rattle.run_sleep.specs.declared.Ending.TheVariants.{Answered, Told, Unwritte
 
 -- "N REFUSAL WORD [U ..]", and a newline: the rule book's reply as a line
 unfoldable pub reply_line : ℕ → Reply → List ℕ
-reply_line n r = decimal n ++ ((space ∷ decimal (told_number r.refusal)) ++ ((space ∷ []) ++ (word_of r.refusal r.follows ++ (spelt r.woken ++ (newline ∷ [])))))
+reply_line n r = decimal n ++ ((space ∷ decimal (told_number r.refusal)) ++ ((space ∷ []) ++ (word_of (told_number r.refusal) r.follows ++ (spelt r.woken ++ (newline ∷ [])))))
 
 -- after a line: the sleepers, how many answers were written, and what the line wrote
 pub record Said : Type 0 where

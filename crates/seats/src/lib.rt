@@ -8,6 +8,7 @@ ghost use Rattle.lines.specs.Lines.{marked, tally};
 ghost use Rattle.seats.specs.Seats.{InSeats, IsSeat, held_by, leaving_of, runs_somewhere};
 
 use rules::{PROCESSORS, SLOTS};
+use std::array::from_fn;
 
 // Somebody runs there, and is marked.
 fn held(seat: Option<u8>, doomed: &[bool; SLOTS]) -> bool
@@ -28,7 +29,7 @@ pub fn leaving<'a>(
     requires { (length runners.now ≡ most_processors) × InSeats runners.now }
     ensures { result ≡ leaving_of doomed.now runners.now }
 {
-    runners.map(|seat| held(seat, doomed))
+    from_fn(|k| held(runners[k], doomed))
 }
 
 // The mask of the marked processors, bit n for processor n.

@@ -3,17 +3,14 @@
 #![tactic(auto)]
 
 ghost use Rattle.std.specs.Prelude.{◌≡◌, ◌∷◌, ◌+◌, ◌≤◌, length, take};
-ghost use Rattle.report.specs.Text.{decimal, space};
 ghost use Rattle.report.specs.Buffer.{Puts};
-ghost use Rattle.sleeps.specs.Numbers.{told_number};
 ghost use Rattle.words.specs.Texts.{nth};
 ghost use Rattle.words.specs.Complaints.{complaint, around, Complains};
-ghost use Rattle.sleeping.specs.Promised.{Whole};
 ghost use Rattle.sleep_text.specs.Lines.{ended, gap_line, ask_line, end_line, parsed, wanted_text, bad_from};
-ghost use Rattle.sleep_text.specs.Answers.{follows_word, word_of, spelt, answer_line, longest};
+ghost use Rattle.sleep_text.specs.Answers.{follows_word, word_of, spelt, told_of, Tellable, told_line, longest};
 
-use report::{add_number, put_byte, put_bytes, put_decimal};
-use sleeps::{Answer, Follows, Operation, Refusal};
+use report::{Tell, add_number, put_byte, put_bytes, put_decimal};
+use sleeps::{Answer, Follows, Operation, PLACES};
 use words::{absent_at, complain, decimal_at, line_at, nth_word, same_at, signed_word_at};
 
 // What a line was expected to have.
@@ -185,24 +182,13 @@ fn put_follows(out: &mut [u8], at: usize, follows: Follows) -> usize
 }
 
 // The word of an answer: "none" where it is refused.
-fn put_verdict(out: &mut [u8], at: usize, refusal: Option<Refusal>, follows: Follows) -> usize
+fn put_verdict(out: &mut [u8], at: usize, refusal: u8, follows: Follows) -> usize
     requires { at + length (word_of refusal follows) ≤ length out.old }
     ensures { Puts (word_of refusal follows) out.old at out.new result }
 {
     match refusal {
-        None => put_follows(out, at, follows),
-        Some(_) => put_bytes(out, at, b"none"),
-    }
-}
-
-// The number of a refusal, or 0, behind a space.
-fn add_refusal(out: &mut [u8], at: usize, refusal: Option<Refusal>) -> usize
-    requires { at + length (space ∷ decimal (told_number refusal)) ≤ length out.old }
-    ensures { Puts (space ∷ decimal (told_number refusal)) out.old at out.new result }
-{
-    match refusal {
-        None => add_number(out, at, 0),
-        Some(refusal) => add_number(out, at, u64::from(refusal.number())),
+        0 => put_follows(out, at, follows),
+        _ => put_bytes(out, at, b"none"),
     }
 }
 
@@ -221,19 +207,51 @@ fn put_numbers(out: &mut [u8], at: usize, numbers: &[u32]) -> usize
 // As many bytes as the longest line of an answer has at most.
 pub const LONGEST: usize = 47;
 
+// What a line tells of an answer, with a number for its refusal, any byte: "REFUSAL", or 0.
+// Kept, a count beside an array: those of the answer.
+#[derive(Clone, Copy)]
+pub struct Told {
+    pub refusal: u8,
+    pub follows: Follows,
+    pub count: usize,
+    pub woken: [u32; PLACES],
+}
+
+impl Tell<Told> for Answer {
+    ghost told = { told_of };
+
+    fn tell(self) -> Told {
+        let woken = self.woken;
+        Told {
+            refusal: self.refusal.map_or(0, |refusal| refusal.number()),
+            follows: self.follows,
+            count: self.count,
+            woken,
+        }
+    }
+}
+
 // "N REFUSAL WORD [U ..]", and a newline.
-pub fn write_answer(out: &mut [u8], number: u64, answer: Answer) -> Option<usize>
-    requires { Whole answer }
-    ensures { Complains (answer_line number answer) longest out.old out.new result }
+fn write_told(out: &mut [u8], number: u64, told: Told) -> Option<usize>
+    requires { Tellable told }
+    ensures { Complains (told_line number told) longest out.old out.new result }
 {
     if out.len() < LONGEST {
         return None;
     }
     let mut at = put_decimal(out, 0, number);
-    at = add_refusal(out, at, answer.refusal);
+    at = add_number(out, at, told.refusal as u64);
     at = put_byte(out, at, b' ');
-    at = put_verdict(out, at, answer.refusal, answer.follows);
-    at = put_numbers(out, at, &answer.woken[..answer.count]);
+    at = put_verdict(out, at, told.refusal, told.follows);
+    at = put_numbers(out, at, &told.woken[..told.count]);
     at = put_byte(out, at, b'\n');
     Some(at)
+}
+
+// The line of an answer, or of what is told of one: the refusal may be any byte.
+pub fn write_answer<A: Tell<Told>>(out: &mut [u8], number: u64, answer: A) -> Option<usize>
+    requires { Tellable (A.told answer) }
+    ensures { Complains (told_line number (A.told answer)) longest out.old out.new result }
+{
+    write_told(out, number, answer.tell())
 }

@@ -7,8 +7,8 @@ use borrow.Author.Tests.{ltb-true, ltb-false, lt-ltb, le-ltb}
 use Prim.Native.Nat.{ℕ, zero, suc, ◌+◌, ◌≤◌, ◌<◌}
 use native.Mathlib.Nat.{not-suc-le-zero, le_of_suc-le-suc}
 use native.Mathlib.Omega.{arith}
-use mathlib.Core.List.{List, [], ◌∷◌, ◌++◌}
-use lib.ListN.{length, take, drop, set, get_or}
+use mathlib.Core.List.{List, [], ◌∷◌}
+use lib.ListN.{length, take, set, get_or}
 use Rattle.pages.specs.declared.Row.{Row}
 use Rattle.pages.specs.Numbers.{frames}
 use Rattle.pages.specs.Rules.{free}
@@ -63,29 +63,53 @@ up_to_least n = go (lt_or_ge n frames)
     go (inl h) = rw (lt-ltb n frames h) (omega arith, omega arith)
     go (inr h) = rw (le-ltb n frames h) (omega arith, omega arith)
 
+-- the first i rows are written
+abbrev pub mixed : ℕ → List Row → List Row → List Row
+mixed zero ys rs = ys
+mixed (suc i) [] rs = []
+mixed (suc i) (y ∷ ys) [] = y ∷ ys
+mixed (suc i) (y ∷ ys) (r ∷ rs) = r ∷ mixed i ys rs
+
+pub mixed_long : (i : ℕ) (ys rs : List Row) → length (mixed i ys rs) ≡ length ys
+mixed_long zero ys rs = refl
+mixed_long (suc i) [] rs = refl
+mixed_long (suc i) (y ∷ ys) [] = refl
+mixed_long (suc i) (y ∷ ys) (r ∷ rs) = ap suc (mixed_long i ys rs)
+
+pub mixed_more : (i : ℕ) (ys rs : List Row) → i < length ys → i < length rs → set (mixed i ys rs) i (get_or rs i free) ≡ mixed (suc i) ys rs
+mixed_more i [] rs h k = absurd (not-suc-le-zero h)
+mixed_more i (y ∷ ys) [] h k = absurd (not-suc-le-zero k)
+mixed_more zero (y ∷ ys) (r ∷ rs) h k = refl
+mixed_more (suc i) (y ∷ ys) (r ∷ rs) h k = ap (λ (l : List Row). r ∷ l) (mixed_more i ys rs (le_of_suc-le-suc h) (le_of_suc-le-suc k))
+
+-- one row more is written
+pub mixed_next : (i n : ℕ) (ys rs l r : List Row) (x : Row) → n ≡ up_to_16 (length ys) → i < n → length rs ≡ frames → l ≡ mixed i ys rs → x ≡ get_or rs i free → r ≡ set l i x → r ≡ mixed (i + 1) ys rs
+mixed_next i n ys rs l r x m h e p k q =
+    let z = up_to_least (length ys) in
+    rw (q, k, p, add_one i) (mixed_more i ys rs (omega arith) (omega arith))
+
+pub mixed_all : (i : ℕ) (ys rs : List Row) → (length ys ≤ i) ⊎ (length rs ≤ i) → mixed i ys rs ≡ over ys rs
+mixed_all zero [] rs h = refl
+mixed_all zero (y ∷ ys) [] h = refl
+mixed_all zero (y ∷ ys) (r ∷ rs) (inl h) = absurd (not-suc-le-zero h)
+mixed_all zero (y ∷ ys) (r ∷ rs) (inr h) = absurd (not-suc-le-zero h)
+mixed_all (suc i) [] rs h = refl
+mixed_all (suc i) (y ∷ ys) [] h = refl
+mixed_all (suc i) (y ∷ ys) (r ∷ rs) (inl h) = ap (λ (l : List Row). r ∷ l) (mixed_all i ys rs (inl (le_of_suc-le-suc h)))
+mixed_all (suc i) (y ∷ ys) (r ∷ rs) (inr h) = ap (λ (l : List Row). r ∷ l) (mixed_all i ys rs (inr (le_of_suc-le-suc h)))
+
 pub over_long : (ys rs : List Row) → length (over ys rs) ≡ length ys
 over_long [] rs = refl
 over_long (y ∷ ys) [] = refl
 over_long (y ∷ ys) (r ∷ rs) = ap suc (over_long ys rs)
 
--- the first n of some, and what lies behind n of others: those written over these
-pub over_parts : (n : ℕ) (ys rs : List Row) → n ≤ length ys → n ≤ length rs → (length ys ≤ n) ⊎ (length rs ≤ n) → take n rs ++ drop n ys ≡ over ys rs
-over_parts zero [] rs a b h = refl
-over_parts zero (y ∷ ys) [] a b h = refl
-over_parts zero (y ∷ ys) (r ∷ rs) a b (inl h) = absurd (not-suc-le-zero h)
-over_parts zero (y ∷ ys) (r ∷ rs) a b (inr h) = absurd (not-suc-le-zero h)
-over_parts (suc n) [] rs a b h = absurd (not-suc-le-zero a)
-over_parts (suc n) (y ∷ ys) [] a b h = absurd (not-suc-le-zero b)
-over_parts (suc n) (y ∷ ys) (r ∷ rs) a b (inl h) = ap (λ (l : List Row). r ∷ l) (over_parts n ys rs (le_of_suc-le-suc a) (le_of_suc-le-suc b) (inl (le_of_suc-le-suc h)))
-over_parts (suc n) (y ∷ ys) (r ∷ rs) a b (inr h) = ap (λ (l : List Row). r ∷ l) (over_parts n ys rs (le_of_suc-le-suc a) (le_of_suc-le-suc b) (inr (le_of_suc-le-suc h)))
-
--- as many as there are, up to sixteen
-pub over_few : (n : ℕ) (ys rs : List Row) → length rs ≡ frames → n ≡ up_to_16 (length ys) → take n rs ++ drop n ys ≡ over ys rs
-over_few n ys rs e q = let z = up_to_least (length ys) in over_parts n ys rs (omega arith) (omega arith) (go (lt_or_ge (length ys) frames))
+-- what the loop has written when it ends
+pub mixed_end : (i : ℕ) (ys rs : List Row) → length rs ≡ frames → up_to_16 (length ys) ≤ i → mixed i ys rs ≡ over ys rs
+mixed_end i ys rs e h = mixed_all i ys rs (go (lt_or_ge (length ys) frames))
   where
-    go : (length ys < frames) ⊎ (frames ≤ length ys) → (length ys ≤ n) ⊎ (length rs ≤ n)
+    go : (length ys < frames) ⊎ (frames ≤ length ys) → (length ys ≤ i) ⊎ (length rs ≤ i)
     go (inl k) = inl (let z = few (length ys) k in omega arith)
-    go (inr k) = inr (let z = many (length ys) k in omega arith)
+    go (inr k) = inr (let z = many (length ys) k in rw e (omega arith))
 
 -- sixteen rows written over sixteen; and rows that were read, written back
 pub over_same : (ys rs : List Row) → length ys ≡ length rs → over ys rs ≡ rs

@@ -90,10 +90,13 @@ pub fn row_of(s: Sheet, at: usize) -> Row
     row_at(&s.rows, at)
 }
 
-// The lent rows, written where they lie: as many as there are, up to sixteen.
+// The lent rows, written where they lie: as many as there are, up to sixteen. Row by row, each by `set_row`: so what that
+// promises holds what an event writes.
 pub fn write_rows(rows: &mut [Row], s: Sheet)
     ensures { rows.new ≡ over rows.old s.rows }
 {
     let n = up_to_16(rows.len());
-    rows[..n].copy_from_slice(&s.rows[..n]);
+    for i in 0..n {
+        set_row(rows, i, row_of(s, i));
+    }
 }

@@ -26,7 +26,8 @@ pub const CLOCK: u8 = LAST_SEMAPHORE + DEVICES as u8 + 1;
 // handles, times, and the code of the line that a slot waits in (0 is none). The high and the low ready line and the
 // waiting, slots in order; the count of four. By customer: how many it may have alive. Of the processor whose event is in
 // hand: who runs (the number of slots stands for nobody), the last clock reading, idle time. The same by processor, who
-// runs being its slot, or none; and how many processors there are. Free rows and unused places are zero, or none.
+// runs being its slot, or none; how many processors there are stands beside who runs, since what lies behind the readings
+// is then short enough to be moved without a call. Free rows and unused places are zero, or none.
 #[derive(Clone, Copy)]
 pub struct Tables {
     pub ids: [u32; SLOTS],
@@ -42,6 +43,7 @@ pub struct Tables {
     pub four: u8,
     pub waits: Queue,
     pub running: usize,
+    pub processors: usize,
     pub sems: [u32; SEMAPHORES],
     pub ceilings: [u16; CUSTOMERS],
     pub next: u32,
@@ -53,7 +55,6 @@ pub struct Tables {
     pub runners: [Option<u8>; PROCESSORS],
     pub lasts: [u32; PROCESSORS],
     pub idles: [u64; PROCESSORS],
-    pub processors: usize,
 }
 
 // The tables handed back, with the answer beside them.

@@ -44,7 +44,9 @@ fn run<F: Fn(u8) -> bool>(text: &[u8], at: usize, passes: F) -> usize
     requires { F.IsAlwaysCallable passes }
     ensures { (p : ℕ → Bool) → ((b : ℕ) (r : Bool) → F.post passes b r → r ≡ p b) → result ≡ at + run p (drop at text.now) }
 {
-    at + text.iter().skip(at).take_while(|b| passes(**b)).count()
+    // The text is cut first: `skip` would walk over all that is before the place.
+    let rest = &text[at.min(text.len())..];
+    at + rest.iter().take_while(|b| passes(**b)).count()
 }
 
 // The line that begins at a place.
