@@ -13,8 +13,11 @@ use Rattle.rules.specs.Words.{sum}
 use Rattle.report.specs.Text.{decimal, joined}
 use Rattle.report.specs.Buffer.{longest}
 use Rattle.report.proofs.Decimal.{length_within}
+use Rattle.pages.specs.declared.Refusal.{Refusal}
+use Rattle.pages.specs.declared.Refusal.TheVariants.{NoSuchUproc, OutOfTurn, AtOdds}
 use Rattle.pages.specs.declared.Word.{Word}
 use Rattle.pages.specs.declared.Word.TheVariants as word
+use Rattle.pages.specs.Numbers.{told_number}
 use Rattle.pager_text.specs.declared.Seen.{Seen}
 use Rattle.pager_text.specs.contracts.Seen.{the_type}
 use Rattle.pager_text.specs.Answers.{name, shown, parts, line_of}
@@ -77,15 +80,31 @@ joined_length : (ps : List (List ℕ)) → length (joined ps) ≡ sum (λ p. suc
 joined_length [] = refl
 joined_length (p ∷ ps) = ap suc (length-append p (joined ps)) ∙ omega (arith, joined_length ps)
 
+-- where the refusal is any byte
 module _ (vs : List Val) (n r : ℕ) (w : Word) (s : Seen) (f : Fits w32 n) (g : Fits w8 r) (h : Is (row the_type) s vs) where
-  pub within_known : length (line_of n r w s) ≤ longest
+  pub told_within_known : length (line_of n r w s) ≤ longest
   unfolding line_of
-  within_known =
+  told_within_known =
       let k = known vs n s f h in
       rw (length-append (decimal n), joined_length)
       (omega (arith, k.number, k.frames, g.fits, length_within n 9 (omega arith), length_within r 2 (omega arith), name_length w, shown_length s.u k.u, shown_length s.entry k.entry, shown_length s.frame k.frame, length_within s.frames 4 (omega arith)))
 
   -- the parts one by one: each has room behind those before it
-  pub room_known : length (decimal n) + (sum (λ p. suc (length p)) (parts r w s) + 1) ≤ longest
+  pub told_room_known : length (decimal n) + (sum (λ p. suc (length p)) (parts r w s) + 1) ≤ longest
   unfolding line_of
-  room_known = rw (length-append (decimal n), joined_length) at within_known
+  told_room_known = rw (length-append (decimal n), joined_length) at told_within_known
+
+-- a refusal that there is has a byte for its number
+refusal_fits : (r : Option Refusal) → Fits w8 (told_number r)
+refusal_fits None = record { fits = omega arith }
+refusal_fits (Some NoSuchUproc) = record { fits = omega arith }
+refusal_fits (Some OutOfTurn) = record { fits = omega arith }
+refusal_fits (Some AtOdds) = record { fits = omega arith }
+
+-- so of an answer nothing is asked of its refusal: for other crates, since the proofs here go by what is told
+module _ (vs : List Val) (n : ℕ) (r : Option Refusal) (w : Word) (s : Seen) (f : Fits w32 n) (h : Is (row the_type) s vs) where
+  pub within_known : length (line_of n (told_number r) w s) ≤ longest
+  within_known = told_within_known vs n (told_number r) w s f (refusal_fits r) h
+
+  pub room_known : length (decimal n) + (sum (λ p. suc (length p)) (parts (told_number r) w s) + 1) ≤ longest
+  room_known = told_room_known vs n (told_number r) w s f (refusal_fits r) h

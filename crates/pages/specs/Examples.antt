@@ -1,6 +1,8 @@
 -- Worked rows, by computing.
-use Rattle.std.specs.Prelude.{true, false, ◌≡◌, refl, List, [], ◌∷◌, map, ℕ, zero, suc, ◌+◌}
+use Rattle.std.specs.Prelude.{Some, None, true, false, ◌≡◌, refl, List, [], ◌∷◌, map, ℕ, zero, suc, ◌+◌}
 use Rattle.pages.specs.Numbers.{told_number}
+use Rattle.pages.specs.declared.Refusal.{Refusal}
+use Rattle.pages.specs.declared.Refusal.TheVariants.{NoSuchUproc, OutOfTurn}
 use Rattle.pages.specs.declared.Cause.TheVariants.{Load, Store, Modification}
 use Rattle.pages.specs.declared.Event.{Event}
 use Rattle.pages.specs.declared.Event.TheVariants.{Refill, Fault, Report, End}
@@ -9,15 +11,15 @@ use Rattle.pages.specs.declared.Word.TheVariants as word
 use Rattle.pages.specs.declared.Answer.{Answer}
 use Rattle.pages.specs.Rules.{entry_of, refill, fault, ends, step, run, answers, fresh}
 
--- an answer, with the number of a refusal or 0
-abbrev told : Answer → ℕ × Word
-told a = (told_number a.refusal, a.word)
+-- an answer, and beside it the number of its refusal, or 0
+abbrev told : Answer → Answer × ℕ
+told a = (a, told_number a.refusal)
 
-abbrev says : Word → ℕ × Word
-says w = (0, w)
+abbrev says : Word → Answer × ℕ
+says w = (record { refusal = None; word = w }, 0)
 
-abbrev refuses : ℕ → ℕ × Word
-refuses n = (n, word.None)
+abbrev refuses : Refusal → ℕ → Answer × ℕ
+refuses r n = (record { refusal = Some r; word = word.None }, n)
 
 -- n pages of U-proc 1 from entry k on, each read
 abbrev loads : ℕ → ℕ → List Event
@@ -32,7 +34,7 @@ one = refl
 
 -- 9, then 11, then a program trap; a modification; the pages at the ends
 order : map told (answers (Refill 9 524288 ∷ Report true ∷ Fault 2 524288 Modification ∷ Refill 2 524318 ∷ Refill 2 524319 ∷ Refill 2 786431 ∷ Fault 2 524287 Load ∷ Fault 2 786431 Load ∷ Refill 0 524288 ∷ Fault 2 524288 Modification ∷ Refill 2 524288 ∷ End 3 ∷ Report false ∷ Refill 2 786431 ∷ []) fresh)
-    ≡ refuses 9 ∷ refuses 11 ∷ says (word.Trap 2) ∷ says (word.Entry 2 30 0) ∷ says (word.Trap 2) ∷ says (word.Entry 2 31 0) ∷ says (word.Trap 2) ∷ says (word.Read 0 2 31) ∷ refuses 9 ∷ refuses 11 ∷ refuses 11 ∷ refuses 11 ∷ says (word.Trap 2) ∷ says (word.Entry 2 31 0) ∷ []
+    ≡ refuses NoSuchUproc 9 ∷ refuses OutOfTurn 11 ∷ says (word.Trap 2) ∷ says (word.Entry 2 30 0) ∷ says (word.Trap 2) ∷ says (word.Entry 2 31 0) ∷ says (word.Trap 2) ∷ says (word.Read 0 2 31) ∷ refuses NoSuchUproc 9 ∷ refuses OutOfTurn 11 ∷ refuses OutOfTurn 11 ∷ refuses OutOfTurn 11 ∷ says (word.Trap 2) ∷ says (word.Entry 2 31 0) ∷ []
 unfolding answers step refill fault ends entry_of
 order = refl
 

@@ -15,11 +15,15 @@ use Rattle.report.specs.Text.{newline, space, decimal}
 use Rattle.report.proofs.Decimal.{length_within}
 use Rattle.sleeps.specs.declared.Follows.{Follows}
 use Rattle.sleeps.specs.declared.Follows.TheVariants.{Nothing, Sleeps, Ends, Wakes, Ended}
-use Rattle.sleeps.specs.Numbers.{last_proc}
+use Rattle.sleeps.specs.Numbers.{last_proc, told_number}
+use Rattle.sleeps.specs.declared.Refusal.{Refusal}
+use Rattle.sleeps.specs.declared.Refusal.TheVariants.{TimeFull, NoSuchProc, AsleepAlready}
+use Rattle.std.specs.declared.option.Option.{Option}
+use Rattle.std.specs.declared.option.Option.TheVariants.{Some, None}
 use Rattle.sleeps.specs.declared.Answer.{Answer}
 use Rattle.sleeping.specs.Promised.{Whole}
 use Rattle.sleep_text.specs.declared.Told.{Told}
-use Rattle.sleep_text.specs.Answers.{follows_word, none, word_of, spelt, told_of, Tellable, told_line, longest}
+use Rattle.sleep_text.specs.Answers.{follows_word, none, word_of, spelt, told_of, Tellable, told_line, answer_line, longest}
 
 spelt_append : (a b : List ℕ) → spelt (a ++ b) ≡ spelt a ++ spelt b
 unfolding spelt
@@ -70,14 +74,14 @@ unfolding spelt
 spelt_length [] h = omega arith
 spelt_length (n ∷ ns) h = omega (arith, length-append (space ∷ decimal n) (spelt ns), length_within n 0 (omega (arith, h.0)), spelt_length ns h.1)
 
-pub answer_within : (n : ℕ) (t : Told) → n < 2 ^ 64 → t.refusal < 2 ^ 8 → Tellable t → length (told_line n t) ≤ longest
+pub told_within : (n : ℕ) (t : Told) → n < 2 ^ 64 → t.refusal < 2 ^ 8 → Tellable t → length (told_line n t) ≤ longest
 unfolding told_line
-answer_within n t h g w =
+told_within n t h g w =
     simp length-append (omega (arith, length_within n 19 (omega arith), length_within t.refusal 2 (omega (arith, g)), word_length t.refusal t.follows, spelt_length (take t.count t.woken) w.procs, length-take-le t.count t.woken (omega (arith, w.room, w.long)), w.room))
 
 -- the same, part by part: two blanks and the newline have a byte each
-pub answer_room : (n : ℕ) (t : Told) → n < 2 ^ 64 → t.refusal < 2 ^ 8 → Tellable t → length (decimal n) + length (decimal t.refusal) + length (word_of t.refusal t.follows) + length (spelt (take t.count t.woken)) + 3 ≤ longest
-answer_room n t h g w =
+pub told_room : (n : ℕ) (t : Told) → n < 2 ^ 64 → t.refusal < 2 ^ 8 → Tellable t → length (decimal n) + length (decimal t.refusal) + length (word_of t.refusal t.follows) + length (spelt (take t.count t.woken)) + 3 ≤ longest
+told_room n t h g w =
     omega (arith, length_within n 19 (omega arith), length_within t.refusal 2 (omega (arith, g)), word_length t.refusal t.follows, spelt_length (take t.count t.woken) w.procs, length-take-le t.count t.woken (omega (arith, w.room, w.long)), w.room)
 
 -- what is left of the line behind each of its parts
@@ -100,3 +104,24 @@ module _ (n : ℕ) (t : Told) where
 -- an answer that obeys its own rule can be told
 pub tellable : (a : Answer) → Whole a → (t : Told) → t ≡ told_of a → Tellable t
 tellable a w t e = rw e (record { long = w.long; room = w.room; procs = w.procs })
+
+-- its refusal has a byte for its number
+refusal_within : (r : Option Refusal) → told_number r < 2 ^ 8
+refusal_within None = omega arith
+refusal_within (Some TimeFull) = omega arith
+refusal_within (Some NoSuchProc) = omega arith
+refusal_within (Some AsleepAlready) = omega arith
+
+-- and "none" for its word
+pub refused_word : (r : Refusal) (f : Follows) → word_of (told_number (Some r)) f ≡ none
+refused_word TimeFull f = refl
+refused_word NoSuchProc f = refl
+refused_word AsleepAlready f = refl
+
+-- so its line is no longer than the longest, whole and part by part: for other crates, since the proofs
+-- here go by what is told
+pub answer_within : (n : ℕ) (a : Answer) → n < 2 ^ 64 → Whole a → length (answer_line n a) ≤ longest
+answer_within n a h w = told_within n (told_of a) h (refusal_within a.refusal) (tellable a w (told_of a) refl)
+
+pub answer_room : (n : ℕ) (a : Answer) → n < 2 ^ 64 → Whole a → length (decimal n) + length (decimal (told_number a.refusal)) + length (word_of (told_number a.refusal) a.follows) + length (spelt (take a.count a.woken)) + 3 ≤ longest
+answer_room n a h w = told_room n (told_of a) h (refusal_within a.refusal) (tellable a w (told_of a) refl)
